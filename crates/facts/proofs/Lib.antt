@@ -1,0 +1,4 @@
+pub mod Lists
+pub mod Rooms
+pub mod Orders
+pub mod Monotone

@@ -1,0 +1,32 @@
+// Kinds of label. A label says whose figures a value may depend on; a reader is a label too, and may read
+// what is labelled at or below it.
+ghost use mathlib.Core.Path.{_≡_};
+ghost use Prim.Native.Nat.{_≤_};
+ghost use Rattle.labels.specs.Kind.{Kind, Lawful};
+
+pub mod grades;
+pub mod makers;
+
+pub use grades::Grade;
+pub use grades::GradeLabel;
+pub use makers::MakerSet;
+pub use makers::MakerSetLabel;
+
+// A kind of label: an order with joins, a lowest label and a rank. Everything above is written once, for every kind.
+// The rank is bounded where a label is made: the logic's values of a type may be larger than any that memory holds.
+pub trait Label: Copy {
+    ghost kind: { Kind Self };
+
+    ghost lawful: { Lawful kind };
+
+    fn at_or_below(self, other: Self) -> bool
+        ensures { λ r. ⌜ r ≡ kind .below self other ⌝ };
+
+    fn join(self, other: Self) -> Self
+        ensures value { λ r. ⌜ r ≡ kind .join self other ⌝ }
+        ensures ranked { λ r. ⌜ kind .rank r ≤ kind .greatest ⌝ };
+
+    fn lowest() -> Self
+        ensures value { λ r. ⌜ r ≡ kind .lowest ⌝ }
+        ensures ranked { λ r. ⌜ kind .rank r ≤ kind .greatest ⌝ };
+}

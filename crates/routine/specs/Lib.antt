@@ -1,0 +1,5 @@
+pub mod Address
+pub mod AddressLaws
+pub mod Effects
+pub mod Limits
+pub mod Parts

@@ -1,0 +1,7 @@
+// Rows, what they do to registers, which words they can reach, and the taking of a routine.
+pub mod addressing;
+pub mod effects;
+pub mod rows;
+pub mod source;
+pub mod taken;
+pub mod taking;
