@@ -25,9 +25,8 @@ use Rattle.facts.specs.declared.types.Reason.the-variants as reason
 use Rattle.facts.specs.declared.types.Known.{Known}
 use Rattle.facts.specs.declared.types.Fact.{Fact}
 use Rattle.facts.specs.declared.types.Fact.the-variants.{Unreached, Reached}
-use Rattle.facts.specs.declared.types.Handed.{Handed}
 use Rattle.facts.specs.Order.{knows, knownAt, belowKnown, belowAll, belowFact}
-use Rattle.facts.specs.Rules.{bitsOf, widthAfter, ofOperand, joinFrom, joinWindow, result, after, narrowed, atTarget, atNext, hand, onward, hands}
+use Rattle.facts.specs.Rules.{bitsOf, widthAfter, ofOperand, joinFrom, joinWindow, result, after, narrowed, atTarget, atNext, Handed, hand, onward, hands}
 use Rattle.facts.specs.Leaks.{hidden, hiddenOperand, spillsFrom, spills, leaks}
 use Rattle.facts.specs.Tables.{factAt, admits, handsFact, leaksFact}
 use Rattle.facts.proofs.Orders.{parts, from-parts, all-refl, all-trans, at-mono, set-mono, fact-trans}

@@ -17,9 +17,6 @@ use Rattle.routine.specs.declared.rows.Row.the-variants as row
 use Rattle.facts.specs.declared.types.Mode.{Mode}
 use Rattle.facts.specs.declared.types.Mode.the-variants.{Settled, Guessed}
 use Rattle.facts.specs.declared.types.Known.{Known}
-use Rattle.facts.specs.declared.types.Handed.{Handed}
-use Rattle.facts.specs.declared.types.Handing.{Handing}
-use Rattle.facts.specs.declared.types.Handing.the-variants.{Nothing, One, Two, Four}
 use Rattle.facts.specs.Order.{knows, knownAt}
 
 -- the count of significant bits of a number of 32 bits, 0 for 0
@@ -41,12 +38,11 @@ widthAfter op.ShiftRight a (Register r) wb = a
 widthAfter op.Less a b wb = 1
 widthAfter op.Equal a b wb = 1
 
--- the facts that a handing stands for
-abbrev pub handed : {L : Type 0} → Handing L → List (Handed L)
-handed Nothing = []
-handed (One a) = a ∷ []
-handed (Two a b) = a ∷ b ∷ []
-handed (Four a b c d) = a ∷ b ∷ c ∷ d ∷ []
+-- a fact that is handed to a row in a mode
+pub record Handed (L : Type 0) : Type 0 where
+  pub row : ℕ
+  pub mode : Mode
+  pub known : List (Known L)
 
 abbrev pub hand : {L : Type 0} → ℕ → Mode → List (Known L) → Handed L
 hand r m ks = record { row = r; mode = m; known = ks }

@@ -4,23 +4,30 @@ use mathlib.Core.Bool.{Bool, true, false, _&&_}
 use mathlib.Core.List.{List, [], _∷_}
 use Prim.Native.Nat.{ℕ, _+_, _*_, _<_}
 use lib.ListN.{length, getD}
+use Rattle.std.specs.declared.option.Option.{Option}
+use Rattle.std.specs.declared.option.Option.the-variants.{Some, None}
 use Rattle.labels.specs.Kind.{Kind}
 use Rattle.routine.specs.declared.rows.Row.{Row}
 use Rattle.routine.specs.declared.rows.Row.the-variants as row
 use Rattle.facts.specs.declared.types.Mode.{Mode}
 use Rattle.facts.specs.declared.types.Mode.the-variants.{Settled, Guessed}
 use Rattle.facts.specs.declared.types.Reason.{Reason}
+use Rattle.facts.specs.declared.types.Known.{Known}
 use Rattle.facts.specs.declared.types.Fact.{Fact}
 use Rattle.facts.specs.declared.types.Fact.the-variants.{Unreached, Reached}
-use Rattle.facts.specs.declared.types.Handed.{Handed}
 use Rattle.facts.specs.Order.{start, belowFact}
-use Rattle.facts.specs.Rules.{hands}
+use Rattle.facts.specs.Rules.{Handed, hands}
 use Rattle.facts.specs.Leaks.{leaks}
 
 -- where a row's fact in a mode stands in a table
 abbrev pub slot : ℕ → Mode → ℕ
 slot i Settled = 2 * i
 slot i Guessed = 2 * i + 1
+
+-- what is known where a fact is reached
+abbrev pub knownOf : {L : Type 0} → Fact L → Option (List (Known L))
+knownOf Unreached = None
+knownOf (Reached ks) = Some ks
 
 -- the fact of a row in a mode
 abbrev pub factAt : {L : Type 0} → List (Fact L) → ℕ → Mode → Fact L

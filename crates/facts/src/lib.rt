@@ -1,6 +1,6 @@
 // Facts about registers: what a row hands on, and what leaks at it.
-mod leaks;
+pub mod leaks;
 mod order;
 mod registers;
-mod rules;
+pub mod rules;
 pub mod types;

@@ -4,6 +4,7 @@ ghost use Prim.Native.Nat.{_≤_};
 ghost use lib.ListN.{length};
 ghost use Rattle.facts.specs.Order.{belowKnown, belowAll, joinKnown, joinAll};
 ghost use Rattle.facts.specs.Raising.{Bounded, Raised};
+ghost use Rattle.facts.specs.Tables.{knownOf};
 use crate::registers::copied;
 use crate::types::Fact;
 use crate::types::Known;
@@ -54,6 +55,16 @@ fn all_joined<L: Label>(one: &[Known<L>; 16], other: &[Known<L>; 16]) -> [Known<
 }
 
 impl<L: Label> Fact<L> {
+    // What is known, where the row is reached.
+    pub fn known(&self) -> Option<[Known<L>; 16]>
+        ensures { λ r. ⌜ r ≡ knownOf (now (self .entry)) ⌝ }
+    {
+        match self {
+            Fact::Unreached => None,
+            Fact::Reached(known) => Some(copied(known)),
+        }
+    }
+
     // What the fact has to rise to, to be at or above what is handed to it; nothing where it is already.
     pub fn raised_by(&self, handed: &[Known<L>; 16]) -> Option<[Known<L>; 16]>
         ensures { λ r. ⌜ Raised (L·Label .kind) (now (self .entry)) (now (handed .entry)) r ⌝ }

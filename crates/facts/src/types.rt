@@ -35,20 +35,3 @@ pub enum Fact<L> {
     Unreached,
     Reached([Known<L>; 16]),
 }
-
-// A fact that a row hands to another row, or to itself, in a mode.
-#[derive(Drop)]
-pub struct Handed<L> {
-    pub row: usize,
-    pub mode: Mode,
-    pub known: [Known<L>; 16],
-}
-
-// All that a row hands on: nothing, one fact, the two of a guessed branch or the four of a settled one.
-#[derive(Drop)]
-pub enum Handing<L> {
-    Nothing,
-    One(Handed<L>),
-    Two(Handed<L>, Handed<L>),
-    Four(Handed<L>, Handed<L>, Handed<L>, Handed<L>),
-}
