@@ -2,9 +2,9 @@
 ghost use mathlib.Core.Path.{_≡_};
 ghost use Rattle.facts.specs.Leaks.{counts, hidden, hiddenOperand, spills, soughtLeak, firstReason};
 use crate::registers::known_at;
-use crate::types::Known;
 use crate::types::Mode;
 use crate::types::Reason;
+use crate::types::Registers;
 use crate::types::Sought;
 use labels::Label;
 use routine::addressing::reaches;
@@ -24,13 +24,13 @@ impl Sought {
 }
 
 // Whether the reader may not read what the register depends on.
-fn is_hidden<L: Label>(known: &[Known<L>; 16], register: u8, reader: L) -> bool
+fn is_hidden<L: Label>(known: &Registers<L>, register: u8, reader: L) -> bool
     ensures { λ r. ⌜ r ≡ hidden (L·Label .kind) reader (now (known .entry)) register ⌝ }
 {
     !known_at(known, register).label.at_or_below(reader)
 }
 
-fn is_operand_hidden<L: Label>(known: &[Known<L>; 16], operand: Operand, reader: L) -> bool
+fn is_operand_hidden<L: Label>(known: &Registers<L>, operand: Operand, reader: L) -> bool
     ensures { λ r. ⌜ r ≡ hiddenOperand (L·Label .kind) reader (now (known .entry)) operand ⌝ }
 {
     match operand {
@@ -55,7 +55,7 @@ fn does_spill<L: Label>(labels: &[L], base: u32, width: u8, label: L) -> bool
 pub fn leak_of<L: Label>(
     row: Row,
     mode: Mode,
-    known: &[Known<L>; 16],
+    known: &Registers<L>,
     labels: &[L],
     reader: L,
     sought: Sought,

@@ -8,6 +8,7 @@ ghost use Rattle.facts.specs.Tables.{knownOf};
 use crate::registers::copied;
 use crate::types::Fact;
 use crate::types::Known;
+use crate::types::Registers;
 use labels::Label;
 
 fn known_below<L: Label>(a: Known<L>, b: Known<L>) -> bool
@@ -16,7 +17,7 @@ fn known_below<L: Label>(a: Known<L>, b: Known<L>) -> bool
     a.label.at_or_below(b.label) && a.width <= b.width
 }
 
-fn all_below<L: Label>(one: &[Known<L>; 16], other: &[Known<L>; 16]) -> bool
+fn all_below<L: Label>(one: &Registers<L>, other: &Registers<L>) -> bool
     ensures { λ r. ⌜ r ≡ belowAll (L·Label .kind) (now (one .entry)) (now (other .entry)) ⌝ }
 {
     let a: &[Known<L>] = one;
@@ -40,7 +41,7 @@ fn known_joined<L: Label>(a: Known<L>, b: Known<L>) -> Known<L>
     }
 }
 
-fn all_joined<L: Label>(one: &[Known<L>; 16], other: &[Known<L>; 16]) -> [Known<L>; 16]
+fn all_joined<L: Label>(one: &Registers<L>, other: &Registers<L>) -> Registers<L>
     ensures value { λ r. ⌜ r ≡ joinAll (L·Label .kind) (now (one .entry)) (now (other .entry)) ⌝ }
     ensures bounded { λ r. ⌜ Bounded (L·Label .kind) r ⌝ }
     ensures long { λ r. ⌜ (length (now (one .entry)) ≡ 16) × (length (now (other .entry)) ≡ 16) ⌝ }
@@ -56,7 +57,7 @@ fn all_joined<L: Label>(one: &[Known<L>; 16], other: &[Known<L>; 16]) -> [Known<
 
 impl<L: Label> Fact<L> {
     // What is known, where the row is reached.
-    pub fn known(&self) -> Option<[Known<L>; 16]>
+    pub fn known(&self) -> Option<Registers<L>>
         ensures { λ r. ⌜ r ≡ knownOf (now (self .entry)) ⌝ }
     {
         match self {
@@ -66,7 +67,7 @@ impl<L: Label> Fact<L> {
     }
 
     // What the fact has to rise to, to be at or above what is handed to it; nothing where it is already.
-    pub fn raised_by(&self, handed: &[Known<L>; 16]) -> Option<[Known<L>; 16]>
+    pub fn raised_by(&self, handed: &Registers<L>) -> Option<Registers<L>>
         ensures { λ r. ⌜ Raised (L·Label .kind) (now (self .entry)) (now (handed .entry)) r ⌝ }
     {
         match self {

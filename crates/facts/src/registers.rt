@@ -5,12 +5,13 @@ ghost use lib.ListN.{length, set};
 ghost use Rattle.facts.specs.Order.{knownAt};
 ghost use Rattle.facts.specs.Rules.{bitsOf, ofOperand, widthAfter, result, narrowed};
 use crate::types::Known;
+use crate::types::Registers;
 use labels::Label;
 use routine::rows::Operand;
 use routine::rows::Operation;
 
 // Of a register that there is not, what is known at the start.
-pub(crate) fn known_at<L: Label>(known: &[Known<L>; 16], register: u8) -> Known<L>
+pub(crate) fn known_at<L: Label>(known: &Registers<L>, register: u8) -> Known<L>
     ensures { λ r. ⌜ r ≡ knownAt (L·Label .kind) (now (known .entry)) register ⌝ }
 {
     match known.get(register as usize) {
@@ -23,7 +24,7 @@ pub(crate) fn known_at<L: Label>(known: &[Known<L>; 16], register: u8) -> Known<
 }
 
 // A copy. What holds a type parameter is not copied whole from behind a reference, so this goes register by register.
-pub(crate) fn copied<L: Label>(known: &[Known<L>; 16]) -> [Known<L>; 16]
+pub(crate) fn copied<L: Label>(known: &Registers<L>) -> Registers<L>
     ensures value { λ r. ⌜ r ≡ now (known .entry) ⌝ }
     ensures long { λ r. ⌜ length r ≡ 16 ⌝ }
 {
@@ -40,11 +41,7 @@ pub(crate) fn copied<L: Label>(known: &[Known<L>; 16]) -> [Known<L>; 16]
 }
 
 // The registers with one replaced.
-pub(crate) fn with<L: Label>(
-    mut known: [Known<L>; 16],
-    register: u8,
-    new: Known<L>,
-) -> [Known<L>; 16]
+pub(crate) fn with<L: Label>(mut known: Registers<L>, register: u8, new: Known<L>) -> Registers<L>
     ensures { λ r. ⌜ r ≡ set known register new ⌝ }
 {
     let at = register as usize;
@@ -61,7 +58,7 @@ pub(crate) fn bits_of(n: u32) -> u8
     (32 - n.leading_zeros()) as u8
 }
 
-pub(crate) fn of_operand<L: Label>(known: &[Known<L>; 16], operand: Operand) -> Known<L>
+pub(crate) fn of_operand<L: Label>(known: &Registers<L>, operand: Operand) -> Known<L>
     ensures { λ r. ⌜ r ≡ ofOperand (L·Label .kind) (now (known .entry)) operand ⌝ }
 {
     match operand {
@@ -114,7 +111,7 @@ pub(crate) fn result_of<L: Label>(
 }
 
 // The registers with the width of one replaced by the smaller of two.
-pub(crate) fn narrow<L: Label>(known: [Known<L>; 16], register: u8, width: u8) -> [Known<L>; 16]
+pub(crate) fn narrow<L: Label>(known: Registers<L>, register: u8, width: u8) -> Registers<L>
     ensures { λ r. ⌜ r ≡ narrowed (L·Label .kind) known register width ⌝ }
 {
     let old = known_at(&known, register);

@@ -9,6 +9,7 @@ use crate::registers::of_operand;
 use crate::registers::result_of;
 use crate::registers::with;
 use crate::types::Known;
+use crate::types::Registers;
 use labels::Label;
 use routine::addressing::reaches;
 use routine::rows::Operand;
@@ -29,7 +30,7 @@ fn window_label<L: Label>(labels: &[L], base: u32, width: u8, label: L) -> L
 }
 
 // What is known after a row, on its way to the next one.
-pub fn known_after<L: Label>(row: Row, known: &[Known<L>; 16], labels: &[L]) -> [Known<L>; 16]
+pub fn known_after<L: Label>(row: Row, known: &Registers<L>, labels: &[L]) -> Registers<L>
     ensures { λ r. ⌜ r ≡ after (L·Label .kind) (now (labels .entry)) row (now (known .entry)) ⌝ }
 {
     match row {
@@ -85,8 +86,8 @@ pub fn known_at_target<L: Label>(
     test: Test,
     left: u8,
     right: Operand,
-    known: &[Known<L>; 16],
-) -> [Known<L>; 16]
+    known: &Registers<L>,
+) -> Registers<L>
     ensures { λ r. ⌜ r ≡ atTarget (L·Label .kind) test left right (now (known .entry)) ⌝ }
 {
     match test {
@@ -113,8 +114,8 @@ pub fn known_at_next<L: Label>(
     test: Test,
     left: u8,
     right: Operand,
-    known: &[Known<L>; 16],
-) -> [Known<L>; 16]
+    known: &Registers<L>,
+) -> Registers<L>
     ensures { λ r. ⌜ r ≡ atNext (L·Label .kind) test left right (now (known .entry)) ⌝ }
 {
     match test {

@@ -29,9 +29,12 @@ pub struct Known<L> {
     pub width: u8,
 }
 
+// What is known of all sixteen registers.
+pub type Registers<L> = [Known<L>; 16];
+
 // What is known at a row in a mode: that it is never reached, or something of each of the sixteen registers.
 #[derive(Drop)]
 pub enum Fact<L> {
     Unreached,
-    Reached([Known<L>; 16]),
+    Reached(Registers<L>),
 }

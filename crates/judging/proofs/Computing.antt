@@ -20,7 +20,8 @@ use Rattle.facts.specs.Order.{start, belowFact, joinAll}
 use Rattle.facts.specs.Rules.{Handed}
 use Rattle.facts.specs.Tables.{slot, factAt, handsAt, admits, Closed}
 use Rattle.facts.proofs.Orders.{all-least}
-use Rattle.judging.specs.Verdicts.{Least, Gives}
+use Rattle.judging.specs.declared.verdict.Verdict.{Verdict}
+use Rattle.judging.specs.Verdicts.{Least, Says, Gives}
 use Rattle.judging.specs.Steps.{modeAt, beginning, Under, firstFrom, verdictFrom}
 use Rattle.judging.proofs.Places.{row-of-slot, mode-of-slot, slot-inside}
 use Rattle.judging.proofs.Turns.{beginning-under, hands-under}
@@ -58,6 +59,11 @@ module _ {L : Type 0} (K : Kind L) (labels : List L) (rows : List Row) where
   -- whether that table is closed
   abbrev pub isClosed : List (Fact L) → Bool
   isClosed table = belowFact K (Reached (start K)) (factAt table 0 Settled) && closedFrom (2 * length rows) 0 table
+
+  -- the verdict of the table after k passes
+  abbrev pub verdictAfter : L → ℕ → Verdict
+  verdictAfter reader k =
+      verdictFrom (firstFrom K labels reader rows (computed k) AnyLeak 0 (2 * length rows)) (firstFrom K labels reader rows (computed k) SpillOrGuessed 0 (2 * length rows))
 
 module _ {L : Type 0} (K : Kind L) (laws : Lawful K) (labels : List L) (rows : List Row) where
   raised-least : (f : Fact L) (ks : List (Known L)) (u : Fact L) → belowFact K f u ≡ true → belowFact K (Reached ks) u ≡ true → belowFact K (raised K f ks) u ≡ true
@@ -120,13 +126,16 @@ module _ {L : Type 0} (K : Kind L) (laws : Lawful K) (labels : List L) (rows : L
       }
 
   -- a routine whose table closes after k passes gets the verdict of that table
-  pub gives : (reader : L) (k : ℕ) → 0 < length rows → isClosed K labels rows (computed K labels rows k) ≡ true
-      → Gives K labels rows reader
-      (verdictFrom (firstFrom K labels reader rows (computed K labels rows k) AnyLeak 0 (2 * length rows)) (firstFrom K labels reader rows (computed K labels rows k) SpillOrGuessed 0 (2 * length rows)))
-  gives reader k some closed =
+  pub gives : (reader : L) (k : ℕ) (verdict : Verdict) → 0 < length rows → isClosed K labels rows (computed K labels rows k) ≡ true
+      → verdictAfter K labels rows reader k ≡ verdict → Gives K labels rows reader verdict
+  gives reader k verdict some closed is =
       let table = computed K labels rows k in
       let least : Least K labels rows table = record {
         closed = is-closed table closed;
         lowest = λ other c i m inside. passes-under other c k (beginning K (2 * length rows)) (beginning-under K (2 * length rows) (omega arith) other (c .entered)) (slot i m);
-      } in
-      (table, least, says K laws labels rows reader table least _ _ (first-found K labels rows reader table AnyLeak) (first-found K labels rows reader table SpillOrGuessed))
+      } in (
+        table,
+        least,
+        subst (Says K labels rows reader table) is
+            (says K laws labels rows reader table least _ _ (first-found K labels rows reader table AnyLeak) (first-found K labels rows reader table SpillOrGuessed)),
+      )

@@ -1,41 +1,36 @@
 // A routine that was judged.
-ghost use denote.Ref.{now};
-ghost use lib.ListN.{length};
-ghost use mathlib.Core.Bool.{true};
 ghost use mathlib.Core.Path.{_≡_};
-ghost use Rattle.routine.specs.Limits.{within};
+ghost use Rattle.routine.specs.Parts.{rowsOf, labelsOf, wordsOf};
 use crate::verdict::Verdict;
+use routine::Taken;
 use routine::rows::Row;
-use routine::source::Source;
 
-// It borrows the source that was taken, and adds the reader and the verdict. It is no `Copy`: a routine is judged once.
-// That its verdict is the rules' own is what `judge` ensures.
+// The taken routine, moved in, with the reader that it was judged for and the verdict. It is no `Copy`: a routine is judged
+// once. That its verdict is the rules' own is what `judge` ensures.
 #[derive(Drop)]
 pub struct Judged<'a, L> {
-    pub(crate) source: &'a Source<'a, L>,
-    pub(crate) words: usize,
+    pub(crate) taken: Taken<'a, L>,
     pub(crate) reader: L,
     pub(crate) verdict: Verdict,
-    ghost fits: { within (now (now source .rows)) words (length (now (now source .labels))) ≡ true },
 }
 
 impl<'a, L: Copy> Judged<'a, L> {
     pub fn rows(&self) -> &'a [Row]
-        ensures { λ r. ⌜ now r ≡ now (now (now (self .entry) .source) .rows) ⌝ }
+        ensures { λ r. ⌜ now r ≡ rowsOf (now (self .entry) .taken) ⌝ }
     {
-        self.source.rows
+        self.taken.rows()
     }
 
     pub fn labels(&self) -> &'a [L]
-        ensures { λ r. ⌜ now r ≡ now (now (now (self .entry) .source) .labels) ⌝ }
+        ensures { λ r. ⌜ now r ≡ labelsOf (now (self .entry) .taken) ⌝ }
     {
-        self.source.labels
+        self.taken.labels()
     }
 
     pub fn words(&self) -> usize
-        ensures { λ r. ⌜ r ≡ now (self .entry) .words ⌝ }
+        ensures { λ r. ⌜ r ≡ wordsOf (now (self .entry) .taken) ⌝ }
     {
-        self.words
+        self.taken.words()
     }
 
     pub fn reader(&self) -> L

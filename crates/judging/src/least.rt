@@ -15,6 +15,7 @@ use facts::rules::known_at_target;
 use facts::types::Fact;
 use facts::types::Known;
 use facts::types::Mode;
+use facts::types::Registers;
 use labels::Label;
 use routine::rows::Row;
 
@@ -22,7 +23,7 @@ use routine::rows::Row;
 const MAX_SLOTS: usize = 512;
 
 // Where a row's fact in a mode stands.
-fn slot_of(row: usize, mode: Mode) -> usize
+pub(crate) fn slot_of(row: usize, mode: Mode) -> usize
     requires { ⌜ slot row mode < 512 ⌝ }
     ensures { λ r. ⌜ r ≡ slot row mode ⌝ }
 {
@@ -48,7 +49,7 @@ fn receive<L: Label>(
     stale: &mut [bool],
     row: usize,
     mode: Mode,
-    known: &[Known<L>; 16],
+    known: &Registers<L>,
 )
     requires inside { ⌜ slot row mode < length (now table) ⌝ }
     requires few { ⌜ length (now table) ≤ 512 ⌝ }
@@ -68,7 +69,7 @@ fn hand_guessed<L: Label>(
     stale: &mut [bool],
     target: usize,
     next: usize,
-    known: &[Known<L>; 16],
+    known: &Registers<L>,
 )
     requires target { ⌜ slot target Mode.Guessed < length (now table) ⌝ }
     requires next { ⌜ slot next Mode.Guessed < length (now table) ⌝ }
@@ -85,7 +86,7 @@ fn hand_on<L: Label>(
     row: Row,
     here: usize,
     mode: Mode,
-    known: &[Known<L>; 16],
+    known: &Registers<L>,
     labels: &[L],
     table: &mut [Fact<L>],
     stale: &mut [bool],
@@ -124,11 +125,10 @@ fn hand_on<L: Label>(
             }
         }
         Row::Jump { target } => receive(table, stale, target as usize, mode, known),
-        Row::Fence => {
-            if let Mode::Settled = mode {
-                receive(table, stale, next, Mode::Settled, known);
-            }
-        }
+        Row::Fence => match mode {
+            Mode::Settled => receive(table, stale, next, mode, known),
+            Mode::Guessed => {}
+        },
         Row::Halt => {}
         plain => receive(table, stale, next, mode, &known_after(plain, known, labels)),
     }

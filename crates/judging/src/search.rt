@@ -1,9 +1,10 @@
 // The search for leaks under a table, and the verdict that it gives.
 ghost use mathlib.Core.Path.{_≡_};
-ghost use Prim.Native.Nat.{_*_};
+ghost use Prim.Native.Nat.{_*_, _≤_};
 ghost use lib.ListN.{length};
 ghost use Rattle.judging.specs.Steps.{leakOf, firstFrom, verdictFrom};
 use crate::least::mode_of;
+use crate::least::slot_of;
 use crate::verdict::Leak;
 use crate::verdict::Verdict;
 use facts::leaks::leak_of;
@@ -39,13 +40,15 @@ fn first_leak<L: Label>(
     table: &[Fact<L>],
     sought: Sought,
 ) -> Option<Leak>
-    requires { ⌜ length (now table) ≡ 2 * length (now rows) ⌝ }
+    requires long { ⌜ length (now table) ≡ 2 * length (now rows) ⌝ }
+    requires few { ⌜ length (now rows) ≤ 256 ⌝ }
     ensures { λ r. ⌜ r ≡ firstFrom (L·Label .kind) (now (labels .entry)) reader (now (rows .entry)) (now (table .entry)) sought 0 (length (now (table .entry))) ⌝ }
 {
     for place in 0..table.len() {
         let row = place / 2;
         let mode = mode_of(place);
-        if let Some(reason) = leak_at(rows[row], mode, &table[place], labels, reader, sought) {
+        let at = slot_of(row, mode);
+        if let Some(reason) = leak_at(rows[row], mode, &table[at], labels, reader, sought) {
             return Some(Leak { row, mode, reason });
         }
     }
@@ -59,7 +62,8 @@ pub(crate) fn verdict_under<L: Label>(
     reader: L,
     table: &[Fact<L>],
 ) -> Verdict
-    requires { ⌜ length (now table) ≡ 2 * length (now rows) ⌝ }
+    requires long { ⌜ length (now table) ≡ 2 * length (now rows) ⌝ }
+    requires few { ⌜ length (now rows) ≤ 256 ⌝ }
     ensures { λ r. ⌜ r ≡ verdictFrom (firstFrom (L·Label .kind) (now (labels .entry)) reader (now (rows .entry)) (now (table .entry)) Sought.AnyLeak 0 (length (now (table .entry)))) (firstFrom (L·Label .kind) (now (labels .entry)) reader (now (rows .entry)) (now (table .entry)) Sought.SpillOrGuessed 0 (length (now (table .entry)))) ⌝ }
 {
     match first_leak(rows, labels, reader, table, Sought::AnyLeak) {

@@ -2,9 +2,13 @@
 ghost use mathlib.Core.Path.{_≡_};
 ghost use Rattle.refusals.specs.Told.{told};
 
-// The part of the product that declines. The card reader will add its own; all refusals so far are of this one.
+// The part of the product that declines: the card as a whole, a line of it, a field of a line, or the tables of rows,
+// words and facts, whoever filled them.
 #[derive(Clone, Copy)]
 pub enum Layer {
+    Card,
+    Line,
+    Field,
     Table,
 }
 

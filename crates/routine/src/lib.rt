@@ -5,3 +5,8 @@ pub mod rows;
 pub mod source;
 pub mod taken;
 pub mod taking;
+
+pub use source::Source;
+pub use taken::Taken;
+pub use taken::take;
+pub use taking::check;

@@ -34,12 +34,6 @@ pub fn take<'a, L>(source: &'a Source<'a, L>, words: usize) -> Taken<'a, L>
 }
 
 impl<'a, L> Taken<'a, L> {
-    pub fn source(&self) -> &'a Source<'a, L>
-        ensures { λ r. ⌜ now r ≡ now (now (self .entry) .source) ⌝ }
-    {
-        self.source
-    }
-
     pub fn rows(&self) -> &'a [Row]
         ensures { λ r. ⌜ now r ≡ now (now (now (self .entry) .source) .rows) ⌝ }
     {

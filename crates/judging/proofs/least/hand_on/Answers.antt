@@ -35,13 +35,13 @@ returns-in-Settled g c =
     t₂ t₃ t₄ s₂ s₃ s₄ target after) in
     subst (λ hs. Received K hs t₁ t₄ s₁ s₄) (ap₂ (λ x m. hands K labels x (c .args .here) m known) (sym (b .is)) (sym (c .in-Settled .is))) all
 
-pub returns-in-rest-mode-2 : need.returns-in-rest-mode-2
-returns-in-rest-mode-2 g c =
+pub returns-in-Guessed : need.returns-in-Guessed
+returns-in-Guessed g c =
     let K = g .L·Label .kind in
     let table = c .args .table .now in
     let stale = c .args .stale .now in
     subst (λ hs. Received K hs table table stale stale)
-    (ap₂ (λ x m. hands K (c .args .labels .now) x (c .args .here) m (c .args .known .now)) (sym (c .in-Fence .is)) (sym (c .in-rest-mode-2 .is)))
+    (ap₂ (λ x m. hands K (c .args .labels .now) x (c .args .here) m (c .args .known .now)) (sym (c .in-Fence .is)) (sym (c .in-Guessed .is)))
     (received-none K (g .L·Label .lawful) table stale)
 
 pub returns-in-Halt : need.returns-in-Halt

@@ -3,7 +3,7 @@ ghost use mathlib.Core.Path.{_≡_};
 ghost use Prim.Native.Nat.{_*_, _<_, _≤_};
 ghost use lib.ListN.{length};
 ghost use Rattle.std.specs.declared.result.Result.the-variants.{Ok, Err};
-ghost use Rattle.routine.specs.Parts.{rowsOf, labelsOf, wordsOf};
+ghost use Rattle.routine.specs.Parts.{rowsOf, labelsOf};
 ghost use Rattle.judging.specs.Verdicts.{Judges};
 use crate::judged::Judged;
 use crate::least::fill_least;
@@ -11,7 +11,7 @@ use crate::search::verdict_under;
 use facts::types::Fact;
 use labels::Label;
 use refusals::Refusal;
-use routine::taken::Taken;
+use routine::Taken;
 
 // Says whether the work table holds two facts a row. It moves nothing.
 pub fn check<L>(taken: &Taken<L>, table: &[Fact<L>]) -> Result<(), Refusal>
@@ -26,8 +26,7 @@ pub fn check<L>(taken: &Taken<L>, table: &[Fact<L>]) -> Result<(), Refusal>
 // Judges a taken routine for a reader. A caller shows by an accepted `check` that the table is long enough.
 pub fn judge<'a, L: Label>(taken: Taken<'a, L>, reader: L, table: &mut [Fact<L>]) -> Judged<'a, L>
     requires { ⌜ 2 * length (rowsOf taken) ≤ length (now table) ⌝ }
-    ensures from { λ r. ⌜ now (r .source) ≡ now (taken .entry .source) ⌝ }
-    ensures sized { λ r. ⌜ r .words ≡ wordsOf (taken .entry) ⌝ }
+    ensures moved { λ r. ⌜ r .taken ≡ taken .entry ⌝ }
     ensures reads { λ r. ⌜ r .reader ≡ reader ⌝ }
     ensures judged { λ r. ⌜ Judges (L·Label .kind) (labelsOf (taken .entry)) (rowsOf (taken .entry)) reader (now (table .entry)) (now (table .exit)) (r .verdict) ⌝ }
 {
@@ -37,8 +36,7 @@ pub fn judge<'a, L: Label>(taken: Taken<'a, L>, reader: L, table: &mut [Fact<L>]
     fill_least(rows, labels, work);
     let verdict = verdict_under(rows, labels, reader, work);
     Judged {
-        source: taken.source(),
-        words: taken.words(),
+        taken,
         reader,
         verdict,
     }
