@@ -26,183 +26,126 @@ pub enum Case {
     StoredOutside,
 }
 
+// r0 is 0.
+const CLEAR: Row = Row::Set { to: 0, value: 0 };
+
+// r1 is the index, word 48.
+const INDEX: Row = Row::Load {
+    to: 1,
+    base: 48,
+    index: 0,
+};
+
+// Row 4 is gone to where the index is below 16.
+const BELOW_16: Row = Row::Branch {
+    test: Test::Less,
+    left: 1,
+    right: Operand::Constant(16),
+    target: 4,
+};
+
+const BELOW_17: Row = Row::Branch {
+    test: Test::Less,
+    left: 1,
+    right: Operand::Constant(17),
+    target: 4,
+};
+
+// The index is cut to its lower bits.
+const KEEP_4_BITS: Row = Row::Compute {
+    operation: Operation::And,
+    to: 1,
+    left: 1,
+    right: Operand::Constant(15),
+};
+
+const KEEP_5_BITS: Row = Row::Compute {
+    operation: Operation::And,
+    to: 1,
+    left: 1,
+    right: Operand::Constant(31),
+};
+
+// A word is read at the index, and another at what it holds.
+const READ: Row = Row::Load {
+    to: 2,
+    base: 0,
+    index: 1,
+};
+
+const SHOW: Row = Row::Load {
+    to: 3,
+    base: 32,
+    index: 2,
+};
+
+// r1 is maker 0's first word, and is stored.
+const SEALED: Row = Row::Load {
+    to: 1,
+    base: 16,
+    index: 0,
+};
+
+const STORE_31: Row = Row::Store {
+    from: 1,
+    base: 31,
+    index: 0,
+};
+
+const STORE_32: Row = Row::Store {
+    from: 1,
+    base: 32,
+    index: 0,
+};
+
 // The rows of a case.
 pub fn rows(case: Case) -> &'static [Row]
     ensures { λ r. ⌜ now r ≡ rowsIn case ⌝ }
 {
     match case {
-        Case::OpenCard => &[
-            Row::Set { to: 0, value: 0 },
-            Row::Load {
-                to: 1,
-                base: 48,
-                index: 0,
-            },
-            Row::Branch {
-                test: Test::Less,
-                left: 1,
-                right: Operand::Constant(16),
-                target: 4,
-            },
-            Row::Halt,
-            Row::Load {
-                to: 2,
-                base: 0,
-                index: 1,
-            },
-            Row::Load {
-                to: 3,
-                base: 32,
-                index: 2,
-            },
-            Row::Halt,
-        ],
+        Case::OpenCard => &[CLEAR, INDEX, BELOW_16, Row::Halt, READ, SHOW, Row::Halt],
         Case::Fenced => &[
-            Row::Set { to: 0, value: 0 },
-            Row::Load {
-                to: 1,
-                base: 48,
-                index: 0,
-            },
-            Row::Branch {
-                test: Test::Less,
-                left: 1,
-                right: Operand::Constant(16),
-                target: 4,
-            },
+            CLEAR,
+            INDEX,
+            BELOW_16,
             Row::Halt,
             Row::Fence,
-            Row::Load {
-                to: 2,
-                base: 0,
-                index: 1,
-            },
-            Row::Load {
-                to: 3,
-                base: 32,
-                index: 2,
-            },
+            READ,
+            SHOW,
             Row::Halt,
         ],
         Case::Masked => &[
-            Row::Set { to: 0, value: 0 },
-            Row::Load {
-                to: 1,
-                base: 48,
-                index: 0,
-            },
-            Row::Branch {
-                test: Test::Less,
-                left: 1,
-                right: Operand::Constant(16),
-                target: 4,
-            },
+            CLEAR,
+            INDEX,
+            BELOW_16,
             Row::Halt,
-            Row::Compute {
-                operation: Operation::And,
-                to: 1,
-                left: 1,
-                right: Operand::Constant(15),
-            },
-            Row::Load {
-                to: 2,
-                base: 0,
-                index: 1,
-            },
-            Row::Load {
-                to: 3,
-                base: 32,
-                index: 2,
-            },
+            KEEP_4_BITS,
+            READ,
+            SHOW,
             Row::Halt,
         ],
         Case::MaskedWide => &[
-            Row::Set { to: 0, value: 0 },
-            Row::Load {
-                to: 1,
-                base: 48,
-                index: 0,
-            },
-            Row::Branch {
-                test: Test::Less,
-                left: 1,
-                right: Operand::Constant(16),
-                target: 4,
-            },
+            CLEAR,
+            INDEX,
+            BELOW_16,
             Row::Halt,
-            Row::Compute {
-                operation: Operation::And,
-                to: 1,
-                left: 1,
-                right: Operand::Constant(31),
-            },
-            Row::Load {
-                to: 2,
-                base: 0,
-                index: 1,
-            },
-            Row::Load {
-                to: 3,
-                base: 32,
-                index: 2,
-            },
+            KEEP_5_BITS,
+            READ,
+            SHOW,
             Row::Halt,
         ],
         Case::FencedPast => &[
-            Row::Set { to: 0, value: 0 },
-            Row::Load {
-                to: 1,
-                base: 48,
-                index: 0,
-            },
-            Row::Branch {
-                test: Test::Less,
-                left: 1,
-                right: Operand::Constant(17),
-                target: 4,
-            },
+            CLEAR,
+            INDEX,
+            BELOW_17,
             Row::Halt,
             Row::Fence,
-            Row::Load {
-                to: 2,
-                base: 0,
-                index: 1,
-            },
-            Row::Load {
-                to: 3,
-                base: 32,
-                index: 2,
-            },
+            READ,
+            SHOW,
             Row::Halt,
         ],
-        Case::StoredInside => &[
-            Row::Set { to: 0, value: 0 },
-            Row::Load {
-                to: 1,
-                base: 16,
-                index: 0,
-            },
-            Row::Store {
-                from: 1,
-                base: 31,
-                index: 0,
-            },
-            Row::Halt,
-        ],
-        Case::StoredOutside => &[
-            Row::Set { to: 0, value: 0 },
-            Row::Load {
-                to: 1,
-                base: 16,
-                index: 0,
-            },
-            Row::Store {
-                from: 1,
-                base: 32,
-                index: 0,
-            },
-            Row::Halt,
-        ],
+        Case::StoredInside => &[CLEAR, SEALED, STORE_31, Row::Halt],
+        Case::StoredOutside => &[CLEAR, SEALED, STORE_32, Row::Halt],
     }
 }
 

@@ -14,8 +14,8 @@ use Rattle.std.specs.declared.option.Option.the-variants.{Some}
 use Rattle.facts.specs.declared.types.Known.{Known}
 use Rattle.facts.specs.declared.types.Fact.{Fact}
 use Rattle.facts.specs.declared.types.Fact.the-variants.{Unreached, Reached}
-use Rattle.facts.specs.Order.{belowKnown, belowAll, belowFact, joinKnown, joinAll, room, roomKnown, roomAll}
-use Rattle.facts.specs.Raising.{Bounded, Raised, RisenTo}
+use Rattle.facts.specs.Order.{belowKnown, belowAll, belowFact, joinKnown, joinAll}
+use Rattle.facts.specs.Raising.{room, roomKnown, roomAll, Bounded, Raised, RisenTo}
 use Rattle.facts.proofs.Orders.{all-refl, all-above, all-admits, all-least}
 
 module _ {L : Type 0} (K : Kind L) (laws : Lawful K) where

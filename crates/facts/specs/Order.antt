@@ -1,7 +1,7 @@
 -- Facts and their order.
 use mathlib.Core.Bool.{Bool, true, false, _&&_}
 use mathlib.Core.List.{List, [], _∷_}
-use Prim.Native.Nat.{ℕ, _+_, _-_, _*_, max}
+use Prim.Native.Nat.{ℕ, max}
 use lib.ListN.{getD, replicate}
 use lib.Dec.{leb}
 use Rattle.labels.specs.Kind.{Kind}
@@ -46,16 +46,3 @@ module _ {L : Type 0} (K : Kind L) where
   joinAll [] bs = []
   joinAll (a ∷ rest) [] = []
   joinAll (a ∷ rest) (b ∷ bs) = joinKnown a b ∷ joinAll rest bs
-
-  -- how often a register's fact can still rise, at most: a width is kept in eight bits
-  abbrev pub roomKnown : Known L → ℕ
-  roomKnown k = (K .greatest - K .rank (k .label)) + (255 - k .width)
-
-  abbrev pub roomAll : List (Known L) → ℕ
-  roomAll [] = 0
-  roomAll (k ∷ ks) = roomKnown k + roomAll ks
-
-  -- how often a fact can still rise, at most
-  abbrev pub room : Fact L → ℕ
-  room Unreached = 16 * (K .greatest + 255) + 1
-  room (Reached ks) = roomAll ks

@@ -9,7 +9,7 @@ use Rattle.std.proofs.shelf.Tests.{false≢true}
 use Rattle.labels.specs.Kind.{Kind}
 use Rattle.facts.specs.declared.types.Fact.{Fact}
 use Rattle.facts.specs.declared.types.Fact.the-variants.{Unreached}
-use Rattle.facts.specs.Order.{room}
+use Rattle.facts.specs.Raising.{room}
 use Rattle.judging.specs.Steps.{staleCount, rooms}
 
 -- a slot marked stale counts once at most

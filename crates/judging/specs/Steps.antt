@@ -18,7 +18,8 @@ use Rattle.facts.specs.declared.types.Sought.{Sought}
 use Rattle.facts.specs.declared.types.Fact.{Fact}
 use Rattle.facts.specs.declared.types.Fact.the-variants.{Unreached, Reached}
 use Rattle.facts.specs.Rules.{Handed}
-use Rattle.facts.specs.Order.{start, belowFact, room}
+use Rattle.facts.specs.Order.{start, belowFact}
+use Rattle.facts.specs.Raising.{room}
 use Rattle.facts.specs.Leaks.{soughtLeak, firstReason}
 use Rattle.facts.specs.Tables.{slot, factAt, handsAt, admits, Closed}
 use Rattle.judging.specs.declared.verdict.Leak.{Leak}

@@ -13,14 +13,17 @@ pub use makers::MakerSet;
 pub use makers::MakerSetLabel;
 
 // A kind of label: an order with joins, a lowest label and a rank. Everything above is written once, for every kind.
-// The rank is bounded where a label is made: the logic's values of a type may be larger than any that memory holds.
+// The rank's bound is no law of every value but told by the calls: the logic's values of a type may be larger than any that
+// memory holds.
 pub trait Label: Copy {
     ghost kind: { Kind Self };
 
     ghost lawful: { Lawful kind };
 
+    // The rank's bound is told here for every label that there is to compare.
     fn at_or_below(self, other: Self) -> bool
-        ensures { λ r. ⌜ r ≡ kind .below self other ⌝ };
+        ensures value { λ r. ⌜ r ≡ kind .below self other ⌝ }
+        ensures ranked { λ _. ⌜ kind .rank self ≤ kind .greatest ⌝ };
 
     fn join(self, other: Self) -> Self
         ensures value { λ r. ⌜ r ≡ kind .join self other ⌝ }

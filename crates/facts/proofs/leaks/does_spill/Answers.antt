@@ -23,7 +23,7 @@ pub returns-then-not-at-or-below : need.returns-then-not-at-or-below
 returns-then-not-at-or-below g c =
     let K = g .L·Label .kind in
     let labels = c .args .labels .now in
-    let is = ap₂ (λ a b. a && not b) (sym (c .reaches .ensures) ∙ c .if-reaches .taken) (sym (c .at-or-below .ensures) ∙ c .if-not-at-or-below .taken) in
+    let is = ap₂ (λ a b. a && not b) (sym (c .reaches .ensures) ∙ c .if-reaches .taken) (sym (c .at-or-below .ensures .value) ∙ c .if-not-at-or-below .taken) in
     sym (sym (c .loop-i .inv) ∙ step K (length labels) (c .args .base) (c .args .width) (c .loop-i .i) labels (c .args .label) (c .index-labels-i .result) true (c .loop-i-test .taken) (c .index-labels-i .is) is)
 
 pub loop-i-again : need.loop-i-again
@@ -36,7 +36,7 @@ loop-i-again g c =
     sym (elim (c .else-reaches .came) [
       | else-reaches·by·then-reaches·else-not-at-or-below w ↦
           here (w .index-labels-i .result) false (c .loop-i-test .taken) (w .index-labels-i .is)
-          (ap₂ (λ a b. a && not b) (sym (c .reaches .ensures) ∙ w .if-reaches .taken) (sym (w .at-or-below .ensures) ∙ w .if-not-at-or-below .left))
+          (ap₂ (λ a b. a && not b) (sym (c .reaches .ensures) ∙ w .if-reaches .taken) (sym (w .at-or-below .ensures .value) ∙ w .if-not-at-or-below .left))
       | else-reaches·by·else-reaches w ↦
           here (getD labels i (c .args .label)) false (c .loop-i-test .taken) (getD-default labels i _ _ (c .loop-i-test .taken))
           (ap (λ a. a && not (K .below (c .args .label) (getD labels i (c .args .label)))) (sym (c .reaches .ensures) ∙ w .if-reaches .left))
