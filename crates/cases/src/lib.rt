@@ -149,8 +149,10 @@ pub fn rows(case: Case) -> &'static [Row]
     }
 }
 
-// The labels of the 64 words.
-pub fn bench_labels() -> [MakerSet; 64]
+// A label for each of the 64 words.
+pub type Labels = [MakerSet; 64];
+
+pub fn bench_labels() -> Labels
     ensures { λ r. ⌜ r ≡ benchLabels ⌝ }
 {
     let mut labels = [MakerSet { members: 0 }; 64];

@@ -106,22 +106,12 @@ fn hand_on<L: Label>(
             target,
         } => {
             let target = target as usize;
+            let told = known_at_target(test, left, right, known);
+            let denied = known_at_next(test, left, right, known);
             hand_guessed(table, stale, target, next, known);
             if let Mode::Settled = mode {
-                receive(
-                    table,
-                    stale,
-                    target,
-                    Mode::Settled,
-                    &known_at_target(test, left, right, known),
-                );
-                receive(
-                    table,
-                    stale,
-                    next,
-                    Mode::Settled,
-                    &known_at_next(test, left, right, known),
-                );
+                receive(table, stale, target, Mode::Settled, &told);
+                receive(table, stale, next, Mode::Settled, &denied);
             }
         }
         Row::Jump { target } => receive(table, stale, target as usize, mode, known),

@@ -26,8 +26,8 @@ returns-in-Settled g c =
     let s₂ = c .hand-guessed .last .stale in
     let s₃ = c .receive .last .stale in
     let s₄ = c .receive-in-Settled .last .stale in
-    let target = subst (λ ks. Received K (hand (b .target) Settled ks ∷ []) t₂ t₃ s₂ s₃) (c .known-at-target .ensures) (c .receive .ensures) in
-    let after = subst (λ ks. Received K (hand next Settled ks ∷ []) t₃ t₄ s₃ s₄) (c .known-at-next .ensures) (c .receive-in-Settled .ensures) in
+    let target = subst (λ ks. Received K (hand (b .target) Settled ks ∷ []) t₂ t₃ s₂ s₃) (c .known-at-target-told .ensures) (c .receive .ensures) in
+    let after = subst (λ ks. Received K (hand next Settled ks ∷ []) t₃ t₄ s₃ s₄) (c .known-at-next-denied .ensures) (c .receive-in-Settled .ensures) in
     let all = received-both K laws (hand (b .target) Guessed known ∷ hand next Guessed known ∷ [])
     (hand (b .target) Settled (atTarget K (b .test) (b .left) (b .right) known) ∷ hand next Settled (atNext K (b .test) (b .left) (b .right) known) ∷ [])
     t₁ t₂ t₄ s₁ s₂ s₄ (c .hand-guessed .ensures)
