@@ -1,7 +1,10 @@
 -- The bench table, as a statement of the rules.
+use mathlib.Core.Path.{_≡_}
 use mathlib.Core.List.{List, [], _∷_, _++_}
 use Prim.Native.Nat.{ℕ}
-use lib.ListN.{replicate}
+use lib.Dec.{eqb, leb}
+use lib.ListN.{getD, set, replicate}
+use Rattle.std.specs.declared.option.Option.the-variants.{None}
 use Rattle.labels.specs.declared.makers.MakerSet.{MakerSet}
 use Rattle.labels.specs.Makers.{sets, of-members}
 use Rattle.routine.specs.declared.rows.Operand.the-variants.{Constant}
@@ -17,6 +20,8 @@ use Rattle.judging.specs.declared.verdict.Leak.{Leak}
 use Rattle.judging.specs.declared.verdict.Verdict.{Verdict}
 use Rattle.judging.specs.declared.verdict.Verdict.the-variants.{C, G, L}
 use Rattle.judging.specs.Verdicts.{Gives}
+use Rattle.promise.specs.declared.events.Letter.the-variants as letter
+use Rattle.promise.specs.Guessing.{Build, Answer, shows, start, answers}
 use Rattle.cases.specs.declared.Case.{Case}
 use Rattle.cases.specs.declared.Case.the-variants.{OpenCard, Fenced, Masked, MaskedWide, FencedPast, StoredInside, StoredOutside}
 
@@ -62,6 +67,28 @@ verdictIn FencedPast = G (leak 6 Settled reason.Address)
 verdictIn StoredInside = C
 verdictIn StoredOutside = L (leak 2 Settled reason.Spill)
 
--- for a reader who may read no maker's words, the rules give each case its verdict
+-- a predictor whose list holds the side that it always guesses, 1 for the target (Steady), and a settler whose list holds the level
+-- from which it always says yes (Deep)
+abbrev pub steadyAndDeep : Build
+steadyAndDeep = record {
+  guess = λ p r. eqb (getD p 0 0) 1;
+  learn = λ p r taken. p;
+  settles = λ q r n. leb (getD q 0 0) n;
+  asked = λ q r n. q;
+}
+
+-- word 48 holds 20, and word 20 holds 7
+abbrev pub benchWords : List ℕ
+benchWords = set (set (replicate 64 0) 48 20) 20 7
+
+-- P8: what the open card shows on the guessing machine, guessed to the target and settled from level 9
+abbrev pub eighthAnswers : List Answer
+eighthAnswers =
+    shows letter.Other 0 0 0 ∷ shows letter.Read 1 0 48 ∷ shows letter.Wrong 2 1 4 ∷ shows letter.Read 4 1 20 ∷ shows letter.Read 5 1 39
+    ∷ shows letter.Flush 6 0 0 ∷ shows letter.Halt 3 0 0 ∷ None ∷ []
+
+-- for a reader who may read no maker's words, the rules give each case its verdict; and the open card runs as it should
 abbrev pub BenchTable : Type 0
-BenchTable = (case : Case) → Gives sets benchLabels (rowsIn case) (of-members 0) (verdictIn case)
+BenchTable =
+    ((case : Case) → Gives sets benchLabels (rowsIn case) (of-members 0) (verdictIn case))
+    × (answers steadyAndDeep (rowsIn OpenCard) 8 (start benchWords (1 ∷ []) (9 ∷ [])) ≡ eighthAnswers)

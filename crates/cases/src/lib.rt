@@ -1,4 +1,5 @@
-// The bench table: seven routines that share a memory, and the verdict that the rules give each.
+// The bench table: seven routines that share a memory, and the verdict that the rules give each; and what the first of them
+// shows on the guessing machine.
 ghost use mathlib.Core.Path.{_≡_};
 ghost use Rattle.cases.specs.Bench.{rowsIn, benchLabels, BenchTable};
 use labels::MakerSet;
@@ -162,7 +163,7 @@ pub fn bench_labels() -> Labels
     labels
 }
 
-// Stands for the bench table: the rules give each of the seven routines its verdict.
+// Stands for the bench table: the rules give each of the seven routines its verdict, and the open card its eight answers.
 pub fn bench_table() -> u8
     ensures { λ _. ⌜ BenchTable ⌝ }
 {

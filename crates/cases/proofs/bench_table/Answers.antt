@@ -6,7 +6,7 @@ use lib.Count.{leadingZeros}
 use lib.ListN.{length}
 use Rattle.labels.specs.Makers.{sets, of-members}
 use Rattle.labels.specs.MakersLawful.{sets-lawful}
-use Rattle.routine.specs.Address.{inWindow}
+use Rattle.routine.specs.Address.{address, inWindow}
 use Rattle.judging.specs.Verdicts.{Gives}
 use Rattle.judging.proofs.Computing.{computed, isClosed, verdictAfter, gives}
 use Rattle.cases.specs.Bench.{rowsIn, verdictIn, benchLabels}
@@ -19,14 +19,16 @@ closing : (case : Case) → 0 < length (rowsIn case) → isClosed sets benchLabe
     → verdictAfter sets benchLabels (rowsIn case) (of-members 0) 2 ≡ verdictIn case → Gives sets benchLabels (rowsIn case) (of-members 0) (verdictIn case)
 closing case = gives sets sets-lawful benchLabels (rowsIn case) (of-members 0) 2 (verdictIn case)
 
-pub returns : need.returns
+verdicts : (case : Case) → Gives sets benchLabels (rowsIn case) (of-members 0) (verdictIn case)
 unfolding leadingZeros inWindow
-returns c = elim [
-  | OpenCard ↦ closing OpenCard (omega arith) refl refl
-  | Fenced ↦ closing Fenced (omega arith) refl refl
-  | Masked ↦ closing Masked (omega arith) refl refl
-  | MaskedWide ↦ closing MaskedWide (omega arith) refl refl
-  | FencedPast ↦ closing FencedPast (omega arith) refl refl
-  | StoredInside ↦ closing StoredInside (omega arith) refl refl
-  | StoredOutside ↦ closing StoredOutside (omega arith) refl refl
-]
+verdicts OpenCard = closing OpenCard (omega arith) refl refl
+verdicts Fenced = closing Fenced (omega arith) refl refl
+verdicts Masked = closing Masked (omega arith) refl refl
+verdicts MaskedWide = closing MaskedWide (omega arith) refl refl
+verdicts FencedPast = closing FencedPast (omega arith) refl refl
+verdicts StoredInside = closing StoredInside (omega arith) refl refl
+verdicts StoredOutside = closing StoredOutside (omega arith) refl refl
+
+pub returns : need.returns
+unfolding address
+returns c = (verdicts, refl)
