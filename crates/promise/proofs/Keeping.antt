@@ -239,7 +239,7 @@ module _ {L : Type 0} (K : Kind L) (laws : Lawful K) (labels : List L) (reader :
   all-hold f (f′ ∷ fs) g (g′ ∷ gs) h = (record { known = h .0 .known; reached = h .0 .reached; below = h .0 .pairs .left-holds }, all-hold f′ fs g′ gs (h .1))
 
   -- under a table with no spill and no guessed leak, where plain runs are alike
-  module _ (none : NoLeak K labels rows reader SpillOrGuessed table) (ws₀ vs₀ : List ℕ) (plain : PlainAlike K labels reader rows ws₀ vs₀) where
+  module _ (none : NoLeak K labels rows reader SpillOrGuessed table) (ws₀ vs₀ : List ℕ) (plain : PlainAlike rows ws₀ vs₀) where
     -- level 0 of both is the plain machine after so many steps, and has no stores pending
     record Linked (s t : State) : Type 0 where
       rel : Rel s t

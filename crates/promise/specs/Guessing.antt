@@ -37,6 +37,7 @@ pub record State : Type 0 where
   pub predictor : List ℕ
   pub settler : List ℕ
 
+-- a level by its parts
 abbrev pub level : ℕ → List ℕ → List Write → Level
 level r rs ws = record { row = r; registers = rs; stores = ws }
 
@@ -53,6 +54,7 @@ abbrev pub seen : List Level → List ℕ → List ℕ
 seen [] ws = ws
 seen (f ∷ fs) ws = laid (f .stores) (seen fs ws)
 
+-- all levels, the top first
 abbrev pub levels : State → List Level
 levels s = s .top ∷ s .waiting
 
@@ -74,9 +76,11 @@ bottom f (g ∷ gs) = bottom g gs
 abbrev pub Answer : Type 0
 Answer = Option Event
 
+-- an event as an answer
 abbrev pub shows : Letter → ℕ → ℕ → ℕ → Answer
 shows l r n x = Some (record { letter = l; row = r; level = n; number = x })
 
+-- the machine with other levels
 abbrev with-levels : State → Level → List Level → State
 with-levels s f fs = record { top = f; waiting = fs; finished = s .finished; words = s .words; predictor = s .predictor; settler = s .settler }
 
@@ -109,9 +113,11 @@ carried s x =
     let m = move x (s .top .row) (s .top .registers) (seen (levels s) (s .words)) in
     (shows (m .letter) (s .top .row) (height s) (m .number), moved s m (halts x))
 
+-- the machine with the predictor's list after learning
 abbrev taught : State → List ℕ → State
 taught s p = record { top = s .top; waiting = s .waiting; finished = s .finished; words = s .words; predictor = p; settler = s .settler }
 
+-- whether a guess is the outcome
 abbrev pub same : Bool → Bool → Bool
 same true b = b
 same false b = not b
@@ -131,6 +137,7 @@ branched B s x target out =
     let s′ = taught s (B .learn (s .predictor) r out) in
     cond (same out guess || leb 8 (height s)) (carried s′ x) (misled s′ (side out target r) (side guess target r))
 
+-- a branch goes by the predictor, any other row is carried out
 abbrev pub obeyed : Build → State → Row → Answer × State
 obeyed B s (row.Branch t a b target) =
     branched B s (row.Branch t a b target) target (outcome t (getD (s .top .registers) a 0) (operand (s .top .registers) b))
@@ -143,9 +150,11 @@ obeyed B s (row.Jump target) = carried s (row.Jump target)
 obeyed B s row.Fence = carried s row.Fence
 obeyed B s row.Halt = carried s row.Halt
 
+-- the row at which the top level stands
 abbrev rowOf : List Row → State → Row
 rowOf rows s = getD rows (s .top .row) row.Halt
 
+-- the machine with the settler's list after being asked
 abbrev asking : State → List ℕ → State
 asking s q = record { top = s .top; waiting = s .waiting; finished = s .finished; words = s .words; predictor = s .predictor; settler = q }
 

@@ -12,6 +12,10 @@ use Rattle.judging.specs.Verdicts.{Passes}
 use Rattle.promise.specs.Plain.{plainStart, plainRun}
 use Rattle.promise.specs.Guessing.{Build, State, start, height, wordsAt, answers, after}
 
+-- plain runs on two lists of words show the same at every length
+abbrev pub PlainAlike : List Row → List ℕ → List ℕ → Type 0
+PlainAlike rows ws vs = (n : ℕ) → plainRun rows n (plainStart ws) ≡ plainRun rows n (plainStart vs)
+
 module _ {L : Type 0} (K : Kind L) (labels : List L) (reader : L) where
   -- two lists of words of one size that agree wherever the reader may read
   pub record Agree (ws vs : List ℕ) : Type 0 where
@@ -23,10 +27,6 @@ module _ {L : Type 0} (K : Kind L) (labels : List L) (reader : L) where
     pub same-answers : (n : ℕ) → answers B rows n s ≡ answers B rows n t
     pub same-levels : (n : ℕ) → height (after B rows n s) ≡ height (after B rows n t)
     pub same-words : (n l : ℕ) → l ≤ height (after B rows n s) → Agree (wordsAt l (after B rows n s)) (wordsAt l (after B rows n t))
-
-  -- plain runs on the two lists show the same at every length
-  abbrev pub PlainAlike : List Row → List ℕ → List ℕ → Type 0
-  PlainAlike rows ws vs = (n : ℕ) → plainRun rows n (plainStart ws) ≡ plainRun rows n (plainStart vs)
 
   -- The promise, whole. A taken routine; any build; equal lists of predictor and settler; two lists of words of the routine's size that
   -- agree wherever the reader may read; any number of steps
