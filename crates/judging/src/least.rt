@@ -1,4 +1,5 @@
-// The least closed table. Whatever a slot's fact was raised by is handed on again until no slot is stale.
+// The least closed table. A slot is the place of a row's fact in a mode. It is stale while its fact has risen since it was last
+// handed on; stale facts are handed on until there are none.
 ghost use mathlib.Core.Path.{_≡_};
 ghost use mathlib.Core.Bool.{true, false};
 ghost use mathlib.Core.List.{[], _∷_};
