@@ -28,7 +28,7 @@ module _ {L : Type 0} (K : Kind L) (table : List (Fact L)) where
   AllHold f [] = Holds Settled f
   AllHold f (g ∷ gs) = Holds Guessed f × AllHold g gs
 
--- along any run, in any closed table
+-- along any run on a list of words of the routine's size, in any closed table
 abbrev pub FactsTrue : {L : Type 0} → Kind L → Type 0
 FactsTrue {L} K = (labels : List L) (rows : List Row) → within rows (length labels) (length labels) ≡ true → (table : List (Fact L)) → Closed K labels rows table
     → (B : Build) (ws p q : List ℕ) → length ws ≡ length labels → (n : ℕ) → AllHold K table (after B rows n (start ws p q) .top) (after B rows n (start ws p q) .waiting)

@@ -14,7 +14,7 @@ pub fn promise_is_kept<L: Label>() -> u8
     0
 }
 
-// What a closed table says of rows and registers is true along every run.
+// What a closed table says of rows and registers is true along every run on words of the routine's size.
 pub fn facts_are_true<L: Label>() -> u8
     ensures { λ _. ⌜ FactsTrue (L·Label .kind) ⌝ }
 {
