@@ -2,6 +2,12 @@
 ghost use mathlib.Core.Path.{_≡_};
 ghost use Rattle.refusals.specs.Told.{told};
 
+pub mod cards;
+
+pub use cards::CardRefusal;
+pub use cards::CardTold;
+pub use cards::Cause;
+
 // The part of the product that declines: the card as a whole, a line of it, a field of a line, or the tables of rows,
 // words and facts, whoever filled them.
 #[derive(Clone, Copy)]

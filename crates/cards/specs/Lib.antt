@@ -1,0 +1,12 @@
+pub mod Text
+pub mod Numbers
+pub mod Fields
+pub mod Words
+pub mod Rows
+pub mod Heads
+pub mod Labs
+pub mod Cards
+pub mod Reading
+pub mod Laws
+pub mod Drafts
+pub mod Reads
