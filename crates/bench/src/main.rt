@@ -2,9 +2,6 @@
 use cases::Case;
 use cases::bench_labels;
 use facts::types::Fact;
-use facts::types::Mode;
-use facts::types::Reason;
-use judging::Leak;
 use judging::Verdict;
 use labels::Grade;
 use labels::GradeLabel;
@@ -12,6 +9,7 @@ use labels::Label;
 use labels::MakerSet;
 use labels::MakerSetLabel;
 use refusals::Refusal;
+use report::verdict_line;
 use routine::Source;
 use routine::rows::Operand;
 use routine::rows::Operation;
@@ -20,6 +18,7 @@ use routine::rows::Test;
 use std::alloc::AllocError;
 use std::alloc::Global;
 use std::error::AnyError;
+use std::io::Write;
 
 // Room for the facts of as many rows as a routine may have.
 const MAX_FACTS: usize = 512;
@@ -28,41 +27,12 @@ const MAX_ROWS: usize = 256;
 
 const MAX_WORDS: usize = 4096;
 
-fn mode_word(mode: Mode) -> &'static str {
-    match mode {
-        Mode::Settled => "settled",
-        Mode::Guessed => "guessed",
-    }
-}
-
-fn reason_word(reason: Reason) -> &'static str {
-    match reason {
-        Reason::Address => "address",
-        Reason::Branch => "branch",
-        Reason::Spill => "spill",
-    }
-}
-
-fn print_leak(rt: &impl Print, letter: &str, leak: Leak) -> Result<(), AnyError> {
-    let row = leak.row;
-    let mode = mode_word(leak.mode);
-    let reason = reason_word(leak.reason);
-    println!(rt, "verdict,{letter},{row},{mode},{reason}")?;
+fn print_verdict(rt: &LibcRuntime, verdict: Verdict) -> Result<(), AnyError> {
+    rt.stdout().write_all(verdict_line(verdict).bytes())?;
     Ok(())
 }
 
-fn print_verdict(rt: &impl Print, verdict: Verdict) -> Result<(), AnyError> {
-    match verdict {
-        Verdict::C => {
-            println!(rt, "verdict,C,-,-,-")?;
-            Ok(())
-        }
-        Verdict::G(leak) => print_leak(rt, "G", leak),
-        Verdict::L(leak) => print_leak(rt, "L", leak),
-    }
-}
-
-fn print_refusal(rt: &impl Print, refusal: Refusal) -> Result<(), AnyError> {
+fn print_refusal(rt: &LibcRuntime, refusal: Refusal) -> Result<(), AnyError> {
     let number = refusal.number();
     let place = refusal.place();
     println!(rt, "declined by {number}, place {place}")?;
@@ -71,7 +41,7 @@ fn print_refusal(rt: &impl Print, refusal: Refusal) -> Result<(), AnyError> {
 
 // Takes and judges one routine, and prints what came of it.
 fn examine<'a, L: Label>(
-    rt: &impl Print,
+    rt: &LibcRuntime,
     source: &'a Source<'a, L>,
     reader: L,
     table: &mut [Fact<L>],
@@ -89,7 +59,7 @@ fn examine<'a, L: Label>(
 }
 
 fn run<'a, L: Label>(
-    rt: &impl Print,
+    rt: &LibcRuntime,
     name: &str,
     rows: &'a [Row],
     labels: &'a [L],
@@ -115,7 +85,7 @@ fn case_name(case: Case) -> &'static str {
     }
 }
 
-fn bench_table(rt: &impl Print, table: &mut [Fact<MakerSet>]) -> Result<(), AnyError> {
+fn bench_table(rt: &LibcRuntime, table: &mut [Fact<MakerSet>]) -> Result<(), AnyError> {
     let labels = bench_labels();
     let all = [
         Case::OpenCard,
@@ -148,7 +118,7 @@ fn graded_labels() -> [Grade; 64] {
 }
 
 // The open card again, its sealed words graded 3: a reader below that grade learns of them, one of that grade may.
-fn graded(rt: &impl Print, table: &mut [Fact<Grade>]) -> Result<(), AnyError> {
+fn graded(rt: &LibcRuntime, table: &mut [Fact<Grade>]) -> Result<(), AnyError> {
     let labels = graded_labels();
     let rows = cases::rows(Case::OpenCard);
     run(
@@ -175,7 +145,7 @@ fn graded(rt: &impl Print, table: &mut [Fact<Grade>]) -> Result<(), AnyError> {
 }
 
 // A register that is cleared by itself still depends on what it held.
-fn cleared(rt: &impl Print, table: &mut [Fact<MakerSet>]) -> Result<(), AnyError> {
+fn cleared(rt: &LibcRuntime, table: &mut [Fact<MakerSet>]) -> Result<(), AnyError> {
     let rows = [
         Row::Load {
             to: 1,
@@ -214,7 +184,7 @@ fn cleared(rt: &impl Print, table: &mut [Fact<MakerSet>]) -> Result<(), AnyError
 }
 
 // One routine for each refusal, at its first place.
-fn refused(rt: &impl Print, table: &mut [Fact<MakerSet>]) -> Result<(), AnyError> {
+fn refused(rt: &LibcRuntime, table: &mut [Fact<MakerSet>]) -> Result<(), AnyError> {
     let labels = bench_labels();
     let reader = MakerSet { members: 0 };
     run(rt, "no rows", &[], &labels, reader, table)?;
