@@ -29,7 +29,7 @@ front xs table n table′ long is = (
 )
 
 -- where a card was accepted, the tables hold it
-module _ (text : List ℕ) (rows rows′ : List Row) (labels labels′ : List ℕ) (r : Result Accepted CardRefusal) (a : Accepted) (is : r ≡ Ok a) where
+module _ {text : List ℕ} {rows rows′ : List Row} {labels labels′ : List ℕ} {r : Result Accepted CardRefusal} {a : Accepted} (is : r ≡ Ok a) where
   module _ (card : Card) (accepts : Accepts text rows labels card r rows′ labels′) where
     told : a ≡ acceptedOf card
     told = let known = accepts .told in cc
@@ -56,7 +56,7 @@ module _ (text : List ℕ) (rows rows′ : List Row) (labels labels′ : List �
         (subst (λ rows. GivesLine (a .kind) (take (a .words) labels′) rows (a .reader) line) (card-rows .0) gives))
 
 -- tables as long as a card may need have room for every card
-module _ (text : List ℕ) (rows rows′ : List Row) (labels labels′ : List ℕ) (r : Result Accepted CardRefusal) (reads : Reads text rows labels r rows′ labels′)
+module _ {text : List ℕ} {rows rows′ : List Row} {labels labels′ : List ℕ} {r : Result Accepted CardRefusal} (reads : Reads text rows labels r rows′ labels′)
     (row-room : 256 ≤ length rows) (label-room : 4096 ≤ length labels) where
   accepted : (card : Card) → WellFormed card → text ≡ written card → Accepts text rows labels card r rows′ labels′
   accepted card well is =
@@ -69,7 +69,7 @@ module _ (text : List ℕ) (rows rows′ : List Row) (labels labels′ : List �
   answers-judged a is line gives =
       let (card, well, same, _) = reads .only a is in
       record {
-        judged = λ card well same. card-line text rows rows′ labels labels′ r a is card (accepted card well same) line gives;
+        judged = λ card well same. card-line is card (accepted card well same) line gives;
         declined = λ none. absurd (none card well same);
       }
 

@@ -42,7 +42,7 @@ fn paint(labels: &mut [u32], from: usize, to: usize, label: u32)
 
 impl Draft {
     // Only the head was read.
-    pub fn new(head: Head) -> Draft
+    pub(crate) fn new(head: Head) -> Draft
         requires { ⌜ 1 ≤ head .words ⌝ ∗ ⌜ head .words ≤ 4096 ⌝ }
         ensures { λ r. ⌜ Drafts r (headOnly head) ⌝ }
     {
@@ -117,7 +117,7 @@ impl Draft {
     }
 
     // Takes line `number`, which is not the head.
-    pub fn take_line(&mut self, number: usize, line: &[u8]) -> Result<(), CardRefusal>
+    pub(crate) fn take_line(&mut self, number: usize, line: &[u8]) -> Result<(), CardRefusal>
         ensures { λ r. ⌜ ((card : Card) → Drafts (now (self .entry)) card → Steps (lineIn card number (now (line .entry))) (now (self .exit)) r) ⌝ }
     {
         let Some(fields) = four_fields(line) else {
@@ -133,7 +133,7 @@ impl Draft {
     }
 
     // The routine as a whole: what only all rows together can tell.
-    pub fn check_whole(&self) -> Result<(), CardRefusal>
+    pub(crate) fn check_whole(&self) -> Result<(), CardRefusal>
         ensures { λ r. ⌜ ((card : Card) → Drafts (now (self .entry)) card → r ≡ made (wholeIn card) (λ _. tt)) ⌝ }
     {
         let words = self.head.words as usize;

@@ -21,6 +21,7 @@ pub(crate) enum Field<'a> {
     Word(&'a [u8]),
 }
 
+// What a field is, before it is known which place it stands in.
 pub(crate) fn field_of(text: &[u8]) -> Field<'_>
     ensures { λ r. ⌜ partIn r ≡ partOf (now (text .entry)) ⌝ }
 {

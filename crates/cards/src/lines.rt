@@ -17,6 +17,7 @@ pub(crate) struct Fields<'a> {
     pub fourth: &'a [u8],
 }
 
+// Whether the text is just that word.
 pub(crate) fn is_same(text: &[u8], word: &[u8]) -> bool
     ensures { λ r. ⌜ r ≡ sameBytes (now (text .entry)) (now (word .entry)) ⌝ }
 {
@@ -55,7 +56,7 @@ pub(crate) fn four_fields(line: &[u8]) -> Option<Fields<'_>>
 
 impl<'a> Reader<'a> {
     // At the first line of the card.
-    pub fn new(card: &'a [u8]) -> Reader<'a>
+    pub(crate) fn new(card: &'a [u8]) -> Reader<'a>
         ensures left { λ r. ⌜ leftIn r ≡ now (card .entry) ⌝ }
         ensures line { λ r. ⌜ r .line ≡ 0 ⌝ }
     {
@@ -66,8 +67,8 @@ impl<'a> Reader<'a> {
         }
     }
 
-    // The next line, if there is one.
-    pub fn next_line(&mut self) -> Option<&'a [u8]>
+    // The next line, if there is one. A last line that nothing ends is taken as it stands.
+    pub(crate) fn next_line(&mut self) -> Option<&'a [u8]>
         ensures { λ r. ⌜ elim r [ None ↦ (leftIn (now (self .entry)) ≡ []) × (now (self .exit) ≡ now (self .entry)) | Some line ↦ (linesOf (leftIn (now (self .entry))) ≡ now line ∷ linesOf (leftIn (now (self .exit)))) × (now (self .exit) .line ≡ now (self .entry) .line + 1) × (length (leftIn (now (self .exit))) < length (leftIn (now (self .entry)))) ] ⌝ }
     {
         if self.at == self.card.len() {

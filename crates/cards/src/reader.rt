@@ -10,6 +10,6 @@ pub(crate) struct Reader<'a> {
     pub at: usize,
     pub line: usize,
     ghost inside: { at ≤ length (now card) },
-    // each line has a byte at least
+    // a line takes one byte at least
     ghost counted: { line ≤ at },
 }

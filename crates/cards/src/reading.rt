@@ -1,9 +1,7 @@
 // Reading a card.
-ghost use mathlib.Core.List.{_++_};
 ghost use mathlib.Core.Path.{_≡_};
 ghost use Prim.Native.Nat.{_+_, _≤_};
 ghost use Rattle.std.specs.Vec.{made};
-ghost use Rattle.std.specs.declared.result.Result.the-variants.{Ok, Err};
 ghost use Rattle.cards.specs.Text.{linesOf, leftIn};
 ghost use Rattle.cards.specs.Cards.{Card};
 ghost use Rattle.cards.specs.Reading.{isCardLong, headLine, linesIn, readCard};
@@ -68,8 +66,8 @@ fn gather(text: &[u8]) -> Result<Draft, CardRefusal>
     Ok(draft)
 }
 
-// Reads a card. Its rows, and the labels of its words as numbers, are written to the tables; nothing beyond them is, and nothing at all where the card is
-// declined.
+// Reads a card. Its rows, and the labels of its words as numbers, are written to the tables handed in; nothing beyond them is, and
+// nothing at all where the card is declined.
 pub fn read(card: &[u8], rows: &mut [Row], labels: &mut [u32]) -> Result<Accepted, CardRefusal>
     ensures { λ r. ⌜ Reads (now (card .entry)) (now (rows .entry)) (now (labels .entry)) r (now (rows .exit)) (now (labels .exit)) ⌝ }
 {
