@@ -17,13 +17,13 @@ use Rattle.routine.specs.declared.rows.Row.{Row}
 use Rattle.cards.specs.declared.draft.Draft.{Draft}
 use Rattle.cards.specs.declared.heads.Head.{Head}
 use Rattle.cards.specs.Text.{linesOf}
-use Rattle.cards.specs.Rows.{made}
+use Rattle.cards.specs.Rows.{mapOk}
 use Rattle.cards.specs.Heads.{andThen}
 use Rattle.cards.specs.Cards.{Card, labelAt, labelsOf}
-use Rattle.cards.specs.Reading.{headOnly, headLine, linesIn, wholeIn, isCardLong, cardIn, readCard}
+use Rattle.cards.specs.Reading.{headOnly, headLine, linesIn, wholeIn, extentFits, cardIn, readCard}
 use Rattle.cards.specs.Drafts.{Gathers}
 use Rattle.cards.specs.Reads.{overlaid, hasRoom, Ends}
-use Rattle.cards.proofs.Outcomes.{made-step, made-err}
+use Rattle.cards.proofs.Outcomes.{map-step, map-err}
 use Rattle.cards.proofs.Painting.{part}
 use Rattle.cards.proofs.Wholes.{whole-sound}
 
@@ -31,14 +31,14 @@ use Rattle.cards.proofs.Wholes.{whole-sound}
 pub gathers-by : (r : Result Draft CardRefusal) {read rule : Result Card CardRefusal} → read ≡ rule → Gathers rule r → Gathers read r
 gathers-by r same gathered = subst (λ s. Gathers s r) (sym same) gathered
 
-pub read-extent : (text : List ℕ) → isCardLong text ≡ false → readCard text ≡ Err refusal.Extent
+pub read-extent : (text : List ℕ) → extentFits text ≡ false → readCard text ≡ Err refusal.Extent
 unfolding readCard
-read-extent text short = cond-false (isCardLong text) _ _ short
+read-extent text short = cond-false (extentFits text) _ _ short
 
-module _ (text first : List ℕ) (rest : List (List ℕ)) (long : isCardLong text ≡ true) (lines : linesOf text ≡ first ∷ rest) where
+module _ (text first : List ℕ) (rest : List (List ℕ)) (long : extentFits text ≡ true) (lines : linesOf text ≡ first ∷ rest) where
   read-first : readCard text ≡ andThen (headLine first) (λ head. andThen (linesIn (headOnly head) 2 rest) wholeIn)
   unfolding readCard
-  read-first = cond-true (isCardLong text) _ _ long ∙ ap cardIn lines
+  read-first = cond-true (extentFits text) _ _ long ∙ ap cardIn lines
 
   pub head-refused : (e : CardRefusal) → headLine first ≡ Err e → readCard text ≡ Err e
   head-refused e is = read-first ∙ ap (λ r. andThen r (λ head. andThen (linesIn (headOnly head) 2 rest) wholeIn)) is
@@ -51,12 +51,12 @@ module _ (text first : List ℕ) (rest : List (List ℕ)) (long : isCardLong tex
     lines-refused e is = read-lines ∙ ap (λ r. andThen r wholeIn) is
 
     module _ (card : Card) (read : linesIn (headOnly head) 2 rest ≡ Ok card) where
-      pub whole-refused : (e : CardRefusal) → made (wholeIn card) (λ _. tt {0}) ≡ Err e → readCard text ≡ Err e
-      whole-refused e is = read-lines ∙ ap (λ r. andThen r wholeIn) read ∙ made-err (wholeIn card) (λ _. tt {0}) e is
+      pub whole-refused : (e : CardRefusal) → mapOk (wholeIn card) (λ _. tt {0}) ≡ Err e → readCard text ≡ Err e
+      whole-refused e is = read-lines ∙ ap (λ r. andThen r wholeIn) read ∙ map-err (wholeIn card) (λ _. tt {0}) e is
 
-      pub whole-accepted : length (card .rows) ≤ 256 → made (wholeIn card) (λ _. tt {0}) ≡ Ok tt → readCard text ≡ Ok card
+      pub whole-accepted : length (card .rows) ≤ 256 → mapOk (wholeIn card) (λ _. tt {0}) ≡ Ok tt → readCard text ≡ Ok card
       whole-accepted few is =
-          let (other, ok, _) = made-step (wholeIn card) (λ _. tt {0}) tt is in
+          let (other, ok, _) = map-step (wholeIn card) (λ _. tt {0}) tt is in
           read-lines ∙ ap (λ r. andThen r wholeIn) read ∙ ok ∙ ap Ok (sym (whole-sound card other few ok .0))
 
 -- a table of which a part from the start was written

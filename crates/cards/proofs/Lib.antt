@@ -15,3 +15,4 @@ mod Splits
 mod Stepping
 mod WholeCards
 mod Wholes
+mod Faults

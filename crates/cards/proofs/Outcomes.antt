@@ -9,7 +9,7 @@ use Rattle.std.specs.declared.result.Result.{Result}
 use Rattle.std.specs.declared.result.Result.the-variants.{Ok, Err}
 use Rattle.refusals.specs.declared.cards.Cause.{Cause}
 use Rattle.cards.specs.Heads.{andThen, orField}
-use Rattle.cards.specs.Rows.{made, three}
+use Rattle.cards.specs.Rows.{mapOk, three}
 
 -- two outcomes that are equal, and two that never are
 pub same-ok : {A E : Type 0} (x y : A) → _≡_ {A = Result A E} (Ok x) (Ok y) → x ≡ y
@@ -44,13 +44,13 @@ pub field-then : {A B : Type 0} (field : ℕ) (o : Option A) (x : A) (next : A �
 field-then field o x next is = ap (λ o. andThen (orField field o) next) is
 
 -- what a row was made of
-pub made-step : {A B E : Type 0} (r : Result A E) (f : A → B) (y : B) → made r f ≡ Ok y → (x : A) × (r ≡ Ok x) × (f x ≡ y)
-made-step (Ok x) f y is = (x, refl, same-ok _ _ is)
-made-step (Err e) f y is = never-ok _ e y is
+pub map-step : {A B E : Type 0} (r : Result A E) (f : A → B) (y : B) → mapOk r f ≡ Ok y → (x : A) × (r ≡ Ok x) × (f x ≡ y)
+map-step (Ok x) f y is = (x, refl, same-ok _ _ is)
+map-step (Err e) f y is = never-ok _ e y is
 
-pub made-err : {A B E : Type 0} (r : Result A E) (f : A → B) (e : E) → made r f ≡ Err e → r ≡ Err e
-made-err (Ok x) f e is = never-ok _ _ _ (sym is)
-made-err (Err d) f e is = cc
+pub map-err : {A B E : Type 0} (r : Result A E) (f : A → B) (e : E) → mapOk r f ≡ Err e → r ≡ Err e
+map-err (Ok x) f e is = never-ok _ _ _ (sym is)
+map-err (Err d) f e is = cc
 
 -- a value that was read, as something else, and under another refusal
 pub mapped : {A B E F : Type 0} (f : A → B) (g : E → F) (r : Result A E) (y : B)

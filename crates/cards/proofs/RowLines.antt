@@ -28,9 +28,9 @@ use Rattle.cards.specs.declared.words.Word.the-variants.{Set, Copy, Compute, L
 use Rattle.cards.specs.Text.{Four}
 use Rattle.cards.specs.Fields.{Part, register, constant, dash, word, partOf, max32, constantOf, operandOf}
 use Rattle.cards.specs.Words.{nameOf, named, wordOf, allWords}
-use Rattle.cards.specs.Rows.{made, three, rightLimit, rowIn}
+use Rattle.cards.specs.Rows.{mapOk, three, rightLimit, rowIn}
 use Rattle.cards.specs.Cards.{texts, constantText, operandText, rowText, operandIs32, is32}
-use Rattle.cards.proofs.Outcomes.{never-some, made-step, three-steps}
+use Rattle.cards.proofs.Outcomes.{never-some, map-step, three-steps}
 use Rattle.cards.proofs.Numerals.{allClear}
 use Rattle.cards.proofs.FieldTexts.{spelled, spelled-part, Field, field-sound, OperandWithin, register-field, constant-field, operand-field, unused-field}
 
@@ -109,10 +109,10 @@ module _ {A B C : Type 0} {readA : Part → Result A Cause} {readB : Part → Re
   fields-sound : (words : ℕ) (four : Four) (r : Row) → four .first ≡ nameOf w
       → ((a : A) (b : B) (c : C) → FitsA a → FitsB b → FitsC c
       → (texts (nameOf w) (writeA a) (writeB b) (writeC c) ≡ rowText (make (a, b, c))) × Fitting words (make (a, b, c)))
-      → made (three (readA (partOf (four .second))) (readB (partOf (four .third))) (readC (partOf (four .fourth)))) make ≡ Ok r
+      → mapOk (three (readA (partOf (four .second))) (readB (partOf (four .third))) (readC (partOf (four .fourth)))) make ≡ Ok r
       → (four ≡ rowText r) × Fitting words r
   fields-sound words four r name fits is =
-      let ((a, b, c), read, same) = made-step _ make r is in
+      let ((a, b, c), read, same) = map-step _ make r is in
       let (is-a, is-b, is-c) = three-steps _ _ _ (a, b, c) read in
       let (text-a, fits-a) = field-sound second (four .second) a is-a in
       let (text-b, fits-b) = field-sound third (four .third) b is-b in
@@ -121,7 +121,7 @@ module _ {A B C : Type 0} {readA : Part → Result A Cause} {readB : Part → Re
       subst (λ r. (four ≡ rowText r) × Fitting words r) same (same-four four _ _ _ _ name text-a text-b text-c ∙ row-text, fitting)
 
   fields-complete : (a : A) (b : B) (c : C) → FitsA a → FitsB b → FitsC c
-      → (made (three (readA (partOf (writeA a))) (readB (partOf (writeB b))) (readC (partOf (writeC c)))) make ≡ Ok (make (a, b, c)))
+      → (mapOk (three (readA (partOf (writeA a))) (readB (partOf (writeB b))) (readC (partOf (writeC c)))) make ≡ Ok (make (a, b, c)))
       × ClearFour (texts (nameOf w) (writeA a) (writeB b) (writeC c))
   fields-complete a b c fits-a fits-b fits-c = (
     simp (second .complete a fits-a, third .complete b fits-b, fourth .complete c fits-c),

@@ -24,16 +24,17 @@ use Rattle.routine.proofs.Limits.{every-from, within-parts, within-from, few-ro
 use Rattle.cards.specs.Text.{Four, linesOf}
 use Rattle.cards.specs.Heads.{andThen}
 use Rattle.cards.specs.Cards.{Card, lineText, headText, labText, rowText, written, labsFit, is32, WellFormed}
-use Rattle.cards.specs.Reading.{headOnly, headLine, linesIn, firstFailing, lineOfRow, wholeIn, isCardLong, cardIn, readCard}
+use Rattle.cards.specs.Reading.{headOnly, headLine, linesIn, firstFailing, lineOfRow, wholeIn, extentFits, cardIn, readCard}
 use Rattle.cards.specs.Laws.{ReadingLaws}
 use Rattle.cards.proofs.Outcomes.{never-ok, passed, then-steps}
 use Rattle.cards.proofs.RowLines.{Fitting}
 use Rattle.cards.proofs.LineTexts.{endedBy, Ended, bare, line-bare, line-found, lines-rejoined}
+use Rattle.cards.proofs.Faults.{first-fault}
 use Rattle.cards.proofs.Wholes.{Whole, whole-sound, whole-ok}
 use Rattle.cards.proofs.CardLines.{Fits, written-head, labLineText, rowLineText, lines-sound, head-line-sound, head-line-read, lines-read}
 
 -- a text that can be a card ends with byte 10
-long-ended : (text : List ℕ) → isCardLong text ≡ true → Ended text × (length text ≤ 32768)
+long-ended : (text : List ℕ) → extentFits text ≡ true → Ended text × (length text ≤ 32768)
 long-ended text long =
     let (sizes, last-eqb) = and-parts (leb 1 (length text) && leb (length text) 32768) (eqb (getD text (length text - 1) 0) 10) long in
     let (some-leb, short-leb) = and-parts (leb 1 (length text)) (leb (length text) 32768) sizes in
@@ -44,7 +45,7 @@ long-ended text long =
     sym (take-all (length text - 1 + 1) text (omega arith)) ∙ take-more text (length text - 1) 0 (omega arith) ∙ ap (λ byte. front ++ byte ∷ []) last in
     ((front, whole), leb-true (length text) 32768 short-leb)
 
-ended-long : (text : List ℕ) → Ended text → length text ≤ 32768 → isCardLong text ≡ true
+ended-long : (text : List ℕ) → Ended text → length text ≤ 32768 → extentFits text ≡ true
 ended-long text (front, is) short =
     let long : length text ≡ length front + 1 = ap length is ∙ length-push front 10 in
     let last : getD text (length text - 1) 0 ≡ 10 = ap (λ t. getD t (length text - 1) 0) is ∙ getD-push front 10 0 (length text - 1) (omega arith) in
@@ -98,7 +99,7 @@ well-formed card fits whole short =
 sound : (text : List ℕ) (card : Card) → readCard text ≡ Ok card → WellFormed card × (text ≡ written card)
 unfolding readCard
 sound text card is =
-    let (long, then-a) = passed (isCardLong text) _ _ card is in
+    let (long, then-a) = passed (extentFits text) _ _ card is in
     let (ended, short) = long-ended text long in
     let (fits, whole, text-is) = card-sound (linesOf text) card then-a in
     let same : text ≡ written card = sym (text-is ∙ lines-rejoined text ended) in
@@ -138,4 +139,4 @@ complete card well =
     ∙ ap (λ r. andThen r wholeIn) (lines-read card fits 2) ∙ whole-ok card (whole-from card well)
 
 pub reading-laws : ReadingLaws
-reading-laws = record { sound = sound; complete = complete }
+reading-laws = record { sound = sound; complete = complete; first = first-fault }

@@ -98,8 +98,8 @@ wholeIn card =
     ])
 
 -- a text that can be a card: 1 to 32,768 bytes, the last of them 10
-abbrev pub isCardLong : List ℕ → Bool
-isCardLong text = leb 1 (length text) && leb (length text) 32768 && eqb (getD text (length text - 1) 0) 10
+abbrev pub extentFits : List ℕ → Bool
+extentFits text = leb 1 (length text) && leb (length text) 32768 && eqb (getD text (length text - 1) 0) 10
 
 -- the lines of a card: the head first, then the others, then the whole
 abbrev pub cardIn : List (List ℕ) → Result Card CardRefusal
@@ -108,4 +108,4 @@ cardIn (first ∷ rest) = andThen (headLine first) (λ head. andThen (linesIn (h
 
 -- the card that a text writes, or why there is none
 unfoldable pub readCard : List ℕ → Result Card CardRefusal
-readCard text = cond (isCardLong text) (cardIn (linesOf text)) (Err refusal.Extent)
+readCard text = cond (extentFits text) (cardIn (linesOf text)) (Err refusal.Extent)

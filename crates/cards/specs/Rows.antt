@@ -23,9 +23,9 @@ three (Ok a) (Ok b) (Err cause) = Err (record { field = 4; cause = cause })
 three (Ok a) (Ok b) (Ok c) = Ok (a, b, c)
 
 -- what is made of a value that was read, if it was
-abbrev pub made : {A B E : Type 0} → Result A E → (A → B) → Result B E
-made (Ok a) f = Ok (f a)
-made (Err e) f = Err e
+abbrev pub mapOk : {A B E : Type 0} → Result A E → (A → B) → Result B E
+mapOk (Ok a) f = Ok (f a)
+mapOk (Err e) f = Err e
 
 -- the largest constant that a computing word takes
 abbrev pub rightLimit : Operation → ℕ
@@ -43,21 +43,21 @@ noneIn four = three (unusedOf (partOf (four .second))) (unusedOf (partOf (four .
 -- the row that a word and its fields write, with that many words of memory
 abbrev pub rowIn : ℕ → Word → Four → Result Row Fault
 rowIn words Set four =
-    made (three (registerOf (partOf (four .second))) (constantOf max32 (partOf (four .third))) (unusedOf (partOf (four .fourth))))
+    mapOk (three (registerOf (partOf (four .second))) (constantOf max32 (partOf (four .third))) (unusedOf (partOf (four .fourth))))
     (λ read. row.Set (read .0) (read .1))
 rowIn words Copy four =
-    made (three (registerOf (partOf (four .second))) (registerOf (partOf (four .third))) (unusedOf (partOf (four .fourth))))
+    mapOk (three (registerOf (partOf (four .second))) (registerOf (partOf (four .third))) (unusedOf (partOf (four .fourth))))
     (λ read. row.Copy (read .0) (read .1))
 rowIn words (Compute operation) four =
-    made (three (registerOf (partOf (four .second))) (registerOf (partOf (four .third))) (operandOf (rightLimit operation) (partOf (four .fourth))))
+    mapOk (three (registerOf (partOf (four .second))) (registerOf (partOf (four .third))) (operandOf (rightLimit operation) (partOf (four .fourth))))
     (λ read. row.Compute operation (read .0) (read .1) (read .2))
-rowIn words Load four = made (accessIn words four) (λ read. row.Load (read .0) (read .1) (read .2))
-rowIn words Store four = made (accessIn words four) (λ read. row.Store (read .0) (read .1) (read .2))
+rowIn words Load four = mapOk (accessIn words four) (λ read. row.Load (read .0) (read .1) (read .2))
+rowIn words Store four = mapOk (accessIn words four) (λ read. row.Store (read .0) (read .1) (read .2))
 rowIn words (Branch test) four =
-    made (three (registerOf (partOf (four .second))) (operandOf max32 (partOf (four .third))) (constantOf max32 (partOf (four .fourth))))
+    mapOk (three (registerOf (partOf (four .second))) (operandOf max32 (partOf (four .third))) (constantOf max32 (partOf (four .fourth))))
     (λ read. row.Branch test (read .0) (read .1) (read .2))
 rowIn words Jump four =
-    made (three (constantOf max32 (partOf (four .second))) (unusedOf (partOf (four .third))) (unusedOf (partOf (four .fourth))))
+    mapOk (three (constantOf max32 (partOf (four .second))) (unusedOf (partOf (four .third))) (unusedOf (partOf (four .fourth))))
     (λ read. row.Jump (read .0))
-rowIn words Fence four = made (noneIn four) (λ read. row.Fence)
-rowIn words Halt four = made (noneIn four) (λ read. row.Halt)
+rowIn words Fence four = mapOk (noneIn four) (λ read. row.Fence)
+rowIn words Halt four = mapOk (noneIn four) (λ read. row.Halt)

@@ -9,7 +9,7 @@ ghost use Rattle.std.specs.declared.result.Result.the-variants.{Err};
 ghost use Rattle.cards.specs.Text.{fourTexts};
 ghost use Rattle.cards.specs.Cards.{Card};
 ghost use Rattle.cards.specs.Reading.{headOnly, wholeIn, withLab, withRow, labLine, rowLine, lineIn};
-ghost use Rattle.cards.specs.Rows.{made};
+ghost use Rattle.cards.specs.Rows.{mapOk};
 ghost use Rattle.cards.specs.Drafts.{Drafts, Steps};
 ghost use Rattle.cards.specs.Labs.{LabAfter};
 use crate::draft::Draft;
@@ -134,7 +134,7 @@ impl Draft {
 
     // The routine as a whole: what only all rows together can tell.
     pub(crate) fn check_whole(&self) -> Result<(), CardRefusal>
-        ensures { λ r. ⌜ ((card : Card) → Drafts (now (self .entry)) card → r ≡ made (wholeIn card) (λ _. tt)) ⌝ }
+        ensures { λ r. ⌜ ((card : Card) → Drafts (now (self .entry)) card → r ≡ mapOk (wholeIn card) (λ _. tt)) ⌝ }
     {
         let words = self.head.words as usize;
         let source = Source {

@@ -4,7 +4,8 @@ ghost use Prim.Native.Nat.{_+_, _≤_};
 ghost use Rattle.std.specs.Vec.{made};
 ghost use Rattle.cards.specs.Text.{linesOf, leftIn};
 ghost use Rattle.cards.specs.Cards.{Card};
-ghost use Rattle.cards.specs.Reading.{isCardLong, headLine, linesIn, readCard};
+ghost use Rattle.cards.specs.Reading.{extentFits, headLine, linesIn, readCard};
+ghost use Rattle.cards.specs.Laws.{ReadingLaws};
 ghost use Rattle.cards.specs.Reads.{Reads};
 ghost use Rattle.cards.specs.Drafts.{Drafts, Steps, Gathers};
 use crate::accepted::Accepted;
@@ -19,8 +20,8 @@ use routine::rows::Row;
 const MAX_CARD: usize = 32768;
 
 // Whether the text is as long as a card may be, and ended as one.
-fn is_card_long(text: &[u8]) -> bool
-    ensures { λ r. ⌜ r ≡ isCardLong (now (text .entry)) ⌝ }
+fn fits_extent(text: &[u8]) -> bool
+    ensures { λ r. ⌜ r ≡ extentFits (now (text .entry)) ⌝ }
 {
     !text.is_empty() && text.len() <= MAX_CARD && text[text.len() - 1] == b'\n'
 }
@@ -53,7 +54,7 @@ fn take_lines(reader: &mut Reader, draft: &mut Draft) -> Result<(), CardRefusal>
 fn gather(text: &[u8]) -> Result<Draft, CardRefusal>
     ensures { λ r. ⌜ Gathers (readCard (now (text .entry))) r ⌝ }
 {
-    if !is_card_long(text) {
+    if !fits_extent(text) {
         return Err(CardRefusal::Extent);
     }
     let mut reader = Reader::new(text);
@@ -69,7 +70,8 @@ fn gather(text: &[u8]) -> Result<Draft, CardRefusal>
 // Reads a card. Its rows, and the labels of its words as numbers, are written to the tables handed in; nothing beyond them is, and
 // nothing at all where the card is declined.
 pub fn read(card: &[u8], rows: &mut [Row], labels: &mut [u32]) -> Result<Accepted, CardRefusal>
-    ensures { λ r. ⌜ Reads (now (card .entry)) (now (rows .entry)) (now (labels .entry)) r (now (rows .exit)) (now (labels .exit)) ⌝ }
+    ensures reads { λ r. ⌜ Reads (now (card .entry)) (now (rows .entry)) (now (labels .entry)) r (now (rows .exit)) (now (labels .exit)) ⌝ }
+    ensures laws { λ _. ⌜ ReadingLaws ⌝ }
 {
     let draft = gather(card)?;
     let words = draft.head.words as usize;

@@ -1,6 +1,6 @@
 // A row by its word and its other fields.
 ghost use mathlib.Core.Path.{_≡_};
-ghost use Rattle.cards.specs.Rows.{three, made, rightLimit, accessIn, noneIn, rowIn};
+ghost use Rattle.cards.specs.Rows.{three, rightLimit, accessIn, noneIn, rowIn};
 ghost use Rattle.cards.specs.Text.{fourTexts};
 use crate::fields::constant;
 use crate::fields::operand;

@@ -9,17 +9,17 @@ use Rattle.answers.proofs.answering.answer.Needs as need
 
 pub answer-accepted-requires : need.answer-accepted-requires
 answer-accepted-requires c κs =
-    let (card, well, same, accepts) = c .read .ensures .only (c .in-Ok .accepted) (c .in-Ok .is) in
+    let (card, well, same, accepts) = c .read .ensures .reads .only (c .in-Ok .accepted) (c .in-Ok .is) in
     (card-rows (c .in-Ok .is) card accepts .1, (card-labels (c .in-Ok .is) card accepts .1, card-fits (c .in-Ok .is) card accepts well))
 
 pub returns-in-Ok : need.returns-in-Ok
 returns-in-Ok c =
     made-weaker (c .answer-accepted .result) _ _
-    (λ line gives. answers-judged (c .read .ensures) (omega (arith, length-replicate 256 Halt)) (omega (arith, length-replicate {A = ℕ} 4096 0))
+    (λ line gives. answers-judged (c .read .ensures .reads) (omega (arith, length-replicate 256 Halt)) (omega (arith, length-replicate {A = ℕ} 4096 0))
     (c .in-Ok .accepted) (c .in-Ok .is) (lineBytes line) gives)
     (c .answer-accepted .ensures)
 
 pub returns-in-Err : need.returns-in-Err
 returns-in-Err c =
-    answers-declined (c .read .ensures) (omega (arith, length-replicate 256 Halt)) (omega (arith, length-replicate {A = ℕ} 4096 0))
+    answers-declined (c .read .ensures .reads) (omega (arith, length-replicate 256 Halt)) (omega (arith, length-replicate {A = ℕ} 4096 0))
     (c .in-Err .refusal) (c .in-Err .is) (lineBytes (c .declined-line .result)) (c .declined-line .ensures)

@@ -31,14 +31,14 @@ rest-steps c =
     steps-by (c .take-lines .last .draft) (c .take-lines .result) (ap (λ k. linesIn (headOnly head) k (linesOf (leftIn reader))) (sym second))
     (c .take-lines .ensures (headOnly head) (c .new-draft .ensures))
 
-pub returns-then-not-is-card-long : need.returns-then-not-is-card-long
-returns-then-not-is-card-long c = gathers-by (Err _) (read-extent (c .args .text .now) (sym (c .if-not-is-card-long .ensures tt))) refl
+pub returns-then-not-fits-extent : need.returns-then-not-fits-extent
+returns-then-not-fits-extent c = gathers-by (Err _) (read-extent (c .args .text .now) (sym (c .if-not-fits-extent .ensures tt))) refl
 
 pub returns-in-Break-head-line : need.returns-in-Break-head-line
 returns-in-Break-head-line c =
     let told = err-from-errBy (c .from-residual .result) (c .from-residual .ensures .1) in
     gathers-by (c .from-residual .result)
-    (head-refused (c .args .text .now) (c .in-Some .first .now) _ (sym (c .if-not-is-card-long .ensures tt)) (lines-are (need.at·returns-in-Break-head-line c .In-Some))
+    (head-refused (c .args .text .now) (c .in-Some .first .now) _ (sym (c .if-not-fits-extent .ensures tt)) (lines-are (need.at·returns-in-Break-head-line c .In-Some))
     _ (sym (c .in-Break-head-line .ensures tt .value)))
     (subst (Gathers (Err _)) (sym (told .1)) (told .2))
 
@@ -47,7 +47,7 @@ returns-in-Break-take-lines c =
     let at = need.at·returns-in-Break-take-lines c in
     let told = err-from-errBy (c .from-residual-in-Break-take-lines .result) (c .from-residual-in-Break-take-lines .ensures .1) in
     gathers-by (c .from-residual-in-Break-take-lines .result)
-    (lines-refused (c .args .text .now) (c .in-Some .first .now) _ (sym (c .if-not-is-card-long .ensures tt)) (lines-are (at .In-Some))
+    (lines-refused (c .args .text .now) (c .in-Some .first .now) _ (sym (c .if-not-fits-extent .ensures tt)) (lines-are (at .In-Some))
     (c .in-Continue-head-line .field-0) (sym (c .in-Continue-head-line .ensures tt .value)) _
     (failed (rest-read (at .After-take-lines)) (c .take-lines .last .draft) (c .take-lines .result) _ (rest-steps (at .After-take-lines)) (c .in-Break-take-lines .was tt)))
     (subst (Gathers (Err _)) (sym (told .1)) (told .2))
@@ -58,7 +58,7 @@ returns-in-Break-check-whole c =
     let (card, read, drafts) = took (rest-read (at .After-take-lines)) (c .take-lines .last .draft) (c .take-lines .result) (rest-steps (at .After-take-lines)) (c .in-Continue-take-lines .was tt) in
     let told = err-from-errBy (c .from-residual-in-Break-check-whole .result) (c .from-residual-in-Break-check-whole .ensures .1) in
     gathers-by (c .from-residual-in-Break-check-whole .result)
-    (whole-refused (c .args .text .now) (c .in-Some .first .now) _ (sym (c .if-not-is-card-long .ensures tt)) (lines-are (at .In-Some))
+    (whole-refused (c .args .text .now) (c .in-Some .first .now) _ (sym (c .if-not-fits-extent .ensures tt)) (lines-are (at .In-Some))
     (c .in-Continue-head-line .field-0) (sym (c .in-Continue-head-line .ensures tt .value)) card read _ (sym (c .in-Break-check-whole .ensures tt card drafts)))
     (subst (Gathers (Err _)) (sym (told .1)) (told .2))
 
@@ -68,7 +68,7 @@ returns c =
     let draft = c .take-lines .last .draft in
     let (card, read, drafts) = took (rest-read (at .After-take-lines)) draft (c .take-lines .result) (rest-steps (at .After-take-lines)) (c .in-Continue-take-lines .was tt) in
     gathers-by (Ok draft)
-    (whole-accepted (c .args .text .now) (c .in-Some .first .now) _ (sym (c .if-not-is-card-long .ensures tt)) (lines-are (at .In-Some))
+    (whole-accepted (c .args .text .now) (c .in-Some .first .now) _ (sym (c .if-not-fits-extent .ensures tt)) (lines-are (at .In-Some))
     (c .in-Continue-head-line .field-0) (sym (c .in-Continue-head-line .ensures tt .value)) card read (omega (arith, drafts .count, draft .few))
     (sym (c .in-Continue-check-whole .ensures tt card drafts)))
     drafts

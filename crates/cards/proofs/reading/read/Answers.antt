@@ -15,7 +15,7 @@ returns-in-Break-draft c =
     let rows = c .args .rows .now in
     let labels = c .args .labels .now in
     let ends : Ends text rows labels (readCard text) (c .from-residual .result) rows labels = search needs in
-    reads reading-laws text rows rows labels labels (c .from-residual .result) ends
+    record { reads = reads reading-laws text rows rows labels labels (c .from-residual .result) ends; laws = reading-laws }
 
 pub returns-then-rows-draft : need.returns-then-rows-draft
 returns-then-rows-draft c =
@@ -23,7 +23,7 @@ returns-then-rows-draft c =
     let rows = c .args .rows .now in
     let labels = c .args .labels .now in
     let ends : Ends text rows labels (readCard text) (Err ShortTable) rows labels = search needs in
-    reads reading-laws text rows rows labels labels (Err ShortTable) ends
+    record { reads = reads reading-laws text rows rows labels labels (Err ShortTable) ends; laws = reading-laws }
 
 pub returns : need.returns
 returns c =
@@ -31,6 +31,10 @@ returns c =
     let text = c .args .card .now in
     let rows = c .args .rows .now in
     let labels = c .args .labels .now in
-    reads reading-laws text rows _ labels _ _
-    (accepted-from text draft rows labels (omega arith) (omega arith) (omega arith)
-    (c .copy-from-slice .last .self) (c .copy-from-slice-2 .last .self) (c .copy-from-slice .ensures .after) (c .copy-from-slice-2 .ensures .after) _ (c .in-Continue-draft .ensures tt))
+    record {
+      reads = reads reading-laws text rows _ labels _ _
+          (accepted-from text draft rows labels (omega arith) (omega arith) (omega arith)
+          (c .copy-from-slice .last .self) (c .copy-from-slice-2 .last .self) (c .copy-from-slice .ensures .after) (c .copy-from-slice-2 .ensures .after) _
+          (c .in-Continue-draft .ensures tt));
+      laws = reading-laws;
+    }

@@ -7,7 +7,7 @@ use lib.ListN.{length, take}
 use Rattle.std.proofs.shelf.Lists.{length-take-le}
 use Rattle.routine.specs.Limits.{within, DeclinedBy}
 use Rattle.routine.proofs.Limits.{within-parts}
-use Rattle.cards.specs.Rows.{made}
+use Rattle.cards.specs.Rows.{mapOk}
 use Rattle.cards.proofs.Painting.{part}
 use Rattle.cards.proofs.Wholes.{whole-ok}
 use Rattle.cards.proofs.draft.Draft.check_whole.Needs as need
@@ -29,4 +29,4 @@ returns-in-Ok c = λ card drafts.
     let labels = length (take (words - 0) (self .labels)) in
     let all = subst (λ rows. within rows words labels ≡ true) (part (self .count) (self .rows) ∙ drafts .rows) (c .in-Ok .ensures tt) in
     let (count, sized, fields, targets, last) = within-parts (card .rows) words labels all in
-    sym (ap (λ r. made r (λ _. tt)) (whole-ok card (record { count = count; targets = targets; last = last })))
+    sym (ap (λ r. mapOk r (λ _. tt)) (whole-ok card (record { count = count; targets = targets; last = last })))
