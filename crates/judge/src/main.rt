@@ -8,10 +8,8 @@ use std::io::Write;
 const ENOUGH: u64 = 32769;
 
 fn main(rt: LibcRuntime) -> Result<(), AnyError> {
-    let heap = rt.alloc();
-    let mut card = Vec::new(heap);
+    let mut card = Vec::new(rt.alloc());
     rt.stdin().take(ENOUGH).read_to_end(&mut card)?;
-    let line = answer(heap, &card)?;
-    rt.stdout().write_all(line.bytes())?;
+    rt.stdout().write_all(answer(&card).bytes())?;
     Ok(())
 }

@@ -32,9 +32,8 @@ impl Tally {
     }
 }
 
-fn has_line(rt: &LibcRuntime, card: &[u8], line: &str) -> Result<bool, AnyError> {
-    let answered = answer(rt.alloc(), card)?;
-    Ok(answered.bytes().strip_suffix(b"\n") == Some(line.as_bytes()))
+fn has_line(card: &[u8], line: &str) -> bool {
+    answer(card).bytes().strip_suffix(b"\n") == Some(line.as_bytes())
 }
 
 // The number of the cause that a refusal carries, 0 where it has none.
@@ -63,7 +62,7 @@ fn is_expected(
 ) -> Result<bool, AnyError> {
     let card = fs::read(rt, path)?;
     match trial {
-        Trial::Line => has_line(rt, &card, expected),
+        Trial::Line => Ok(has_line(&card, expected)),
         Trial::Cause => has_cause(&card, expected),
     }
 }

@@ -1,7 +1,6 @@
 use Prim.Native.Nat.{ℕ}
 use native.Mathlib.Omega.{arith}
 use lib.ListN.{length-replicate}
-use Rattle.std.proofs.shelf.Results.{made-weaker}
 use Rattle.routine.specs.declared.rows.Row.the-variants.{Halt}
 use Rattle.report.specs.Parts.{lineBytes}
 use Rattle.answers.proofs.Accepted.{card-rows, card-labels, card-fits, answers-judged, answers-declined}
@@ -14,10 +13,8 @@ answer-accepted-requires c κs =
 
 pub returns-in-Ok : need.returns-in-Ok
 returns-in-Ok c =
-    made-weaker (c .answer-accepted .result) _ _
-    (λ line gives. answers-judged (c .read .ensures .reads) (omega (arith, length-replicate 256 Halt)) (omega (arith, length-replicate {A = ℕ} 4096 0))
-    (c .in-Ok .accepted) (c .in-Ok .is) (lineBytes line) gives)
-    (c .answer-accepted .ensures)
+    answers-judged (c .read .ensures .reads) (omega (arith, length-replicate 256 Halt)) (omega (arith, length-replicate {A = ℕ} 4096 0))
+    (c .in-Ok .accepted) (c .in-Ok .is) (lineBytes (c .answer-accepted .result)) (c .answer-accepted .ensures)
 
 pub returns-in-Err : need.returns-in-Err
 returns-in-Err c =
