@@ -1,4 +1,4 @@
--- Labels by the numbers that cards write for them. A number past a kind's last stands for its highest label, which the fewest may read.
+-- Labels by the numbers that cards write for them. No well-formed card has a number past its kind's last; it would stand for the highest label.
 use Prim.Native.Nat.{ℕ, min}
 use Rattle.labels.specs.declared.makers.MakerSet.{MakerSet}
 use Rattle.labels.specs.declared.grades.Grade.{Grade}

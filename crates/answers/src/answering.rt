@@ -47,7 +47,8 @@ fn judged_line<'a, L: Label>(source: &'a Source<'a, L>, reader: L, table: &mut [
     verdict_line(judged.verdict())
 }
 
-// The line of the verdict on a card's rows, with its labels and its reader taken as a kind's. The tables of labels and of facts are for working in.
+// The line of the verdict on a card's rows, with its labels and its reader taken as a kind's. The tables of labels and of facts
+// are for working in.
 fn answer_as<L: Numbered>(
     rows: &[Row],
     numbers: &[u32],
@@ -90,8 +91,8 @@ fn answer_accepted(accepted: Accepted, rows: &[Row], numbers: &[u32]) -> Line
     }
 }
 
-// The line that answers a text offered as a card: its verdict, or why it is declined. All tables are for the longest card, so that nothing is asked of
-// the heap and there is an answer to every text.
+// The line that answers a text offered as a card: its verdict, or why it is declined. All tables are for the longest card, so
+// that nothing is asked of the heap and there is an answer to every text.
 pub fn answer(card: &[u8]) -> Line
     ensures { λ r. ⌜ Answers (now (card .entry)) (lineBytes r) ⌝ }
 {

@@ -8,7 +8,7 @@ use labels::Label;
 use labels::MakerSet;
 use labels::MakerSetLabel;
 
-// A kind whose labels have numbers. A number past the last stands for the highest label.
+// A kind whose labels have numbers. A number past the last, which no card has, stands for the highest label.
 pub(crate) trait Numbered: Label {
     ghost numbered: { ℕ → Self };
 

@@ -4,7 +4,6 @@ pub mod Fields
 pub mod Words
 pub mod Rows
 pub mod Heads
-pub mod Labs
 pub mod Cards
 pub mod Reading
 pub mod Laws

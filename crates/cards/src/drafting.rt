@@ -7,11 +7,10 @@ ghost use lib.ListN.{length, getD, take};
 ghost use Rattle.routine.specs.Limits.{fieldsFit, DeclinedBy};
 ghost use Rattle.std.specs.declared.result.Result.the-variants.{Err};
 ghost use Rattle.cards.specs.Text.{fourTexts};
-ghost use Rattle.cards.specs.Cards.{Card};
+ghost use Rattle.cards.specs.Cards.{Card, labFits};
 ghost use Rattle.cards.specs.Reading.{headOnly, wholeIn, withLab, withRow, labLine, rowLine, lineIn};
 ghost use Rattle.cards.specs.Rows.{mapOk};
 ghost use Rattle.cards.specs.Drafts.{Drafts, Steps};
-ghost use Rattle.cards.specs.Labs.{LabAfter};
 use crate::draft::Draft;
 use crate::heads::Head;
 use crate::heads::Lab;
@@ -57,7 +56,7 @@ impl Draft {
     }
 
     fn add_lab(&mut self, lab: Lab)
-        requires { ⌜ LabAfter (now self .head) (now self .covered) lab ⌝ }
+        requires { ⌜ labFits (now self .head) (now self .covered) lab ≡ true ⌝ }
         ensures { λ _. ⌜ ((card : Card) → Drafts (now (self .entry)) card → Drafts (now (self .exit)) (withLab card lab)) ⌝ }
     {
         let end = lab.from + lab.count;

@@ -1,9 +1,10 @@
 // A card's head and its `lab` lines.
+ghost use mathlib.Core.Bool.{true};
 ghost use mathlib.Core.Path.{_≡_};
 ghost use Prim.Native.Nat.{_≤_};
 ghost use Rattle.std.specs.Vec.{made};
 ghost use Rattle.cards.specs.Heads.{kindNamed, labelLimit, headIn, labIn};
-ghost use Rattle.cards.specs.Labs.{LabAfter};
+ghost use Rattle.cards.specs.Cards.{labFits};
 ghost use Rattle.cards.specs.Text.{fourTexts};
 use crate::lines::Fields;
 use crate::lines::is_same;
@@ -85,7 +86,7 @@ pub(crate) fn head_in(fields: &Fields) -> Result<Head, usize>
 // The `lab` line that the fields write after the words before `covered` had theirs, or the first wrong field.
 pub(crate) fn lab_in(head: Head, covered: u32, fields: &Fields) -> Result<Lab, usize>
     ensures value { λ r. ⌜ r ≡ labIn head covered (fourTexts (now (fields .entry))) ⌝ }
-    ensures bound { λ r. ⌜ (1 ≤ head .words → made r (LabAfter head covered)) ⌝ }
+    ensures bound { λ r. ⌜ (1 ≤ head .words → made r (λ lab. labFits head covered lab ≡ true)) ⌝ }
 {
     let last = head.words.saturating_sub(1);
     let Some(from) = plain(fields.second, covered, last) else {
