@@ -14,12 +14,15 @@ use cards::Accepted;
 use cards::LabelKind;
 use cards::read;
 use facts::types::Fact;
+use judging::MAX_FACTS;
 use labels::Grade;
 use labels::Label;
 use labels::MakerSet;
 use report::Line;
 use report::declined_line;
 use report::verdict_line;
+use routine::MAX_ROWS;
+use routine::MAX_WORDS;
 use routine::Source;
 use routine::rows::Row;
 
@@ -79,13 +82,13 @@ fn answer_accepted(accepted: Accepted, rows: &[Row], numbers: &[u32]) -> Line
     let numbers = &numbers[0..words];
     match accepted.kind {
         LabelKind::Makers => {
-            let mut labels = [MakerSet { members: 0 }; 4096];
-            let mut table = [NO_MAKERS; 512];
+            let mut labels = [MakerSet { members: 0 }; MAX_WORDS];
+            let mut table = [NO_MAKERS; MAX_FACTS];
             answer_as(rows, numbers, accepted.reader, &mut labels, &mut table)
         }
         LabelKind::Grades => {
-            let mut labels = [Grade::G0; 4096];
-            let mut table = [NO_GRADES; 512];
+            let mut labels = [Grade::G0; MAX_WORDS];
+            let mut table = [NO_GRADES; MAX_FACTS];
             answer_as(rows, numbers, accepted.reader, &mut labels, &mut table)
         }
     }
@@ -96,8 +99,8 @@ fn answer_accepted(accepted: Accepted, rows: &[Row], numbers: &[u32]) -> Line
 pub fn answer(card: &[u8]) -> Line
     ensures { λ r. ⌜ Answers (now (card .entry)) (lineBytes r) ⌝ }
 {
-    let mut rows = [Row::Halt; 256];
-    let mut numbers = [0; 4096];
+    let mut rows = [Row::Halt; MAX_ROWS];
+    let mut numbers = [0; MAX_WORDS];
     match read(card, &mut rows, &mut numbers) {
         Ok(accepted) => answer_accepted(accepted, &rows, &numbers),
         Err(refusal) => declined_line(refusal),

@@ -2,6 +2,7 @@
 use cases::Case;
 use cases::bench_labels;
 use facts::types::Fact;
+use judging::MAX_FACTS;
 use judging::Verdict;
 use labels::Grade;
 use labels::GradeLabel;
@@ -10,6 +11,8 @@ use labels::MakerSet;
 use labels::MakerSetLabel;
 use refusals::Refusal;
 use report::verdict_line;
+use routine::MAX_ROWS;
+use routine::MAX_WORDS;
 use routine::Source;
 use routine::rows::Operand;
 use routine::rows::Operation;
@@ -19,13 +22,6 @@ use std::alloc::AllocError;
 use std::alloc::Global;
 use std::error::AnyError;
 use std::io::Write;
-
-// Room for the facts of as many rows as a routine may have.
-const MAX_FACTS: usize = 512;
-
-const MAX_ROWS: usize = 256;
-
-const MAX_WORDS: usize = 4096;
 
 fn print_verdict(rt: &LibcRuntime, verdict: Verdict) -> Result<(), AnyError> {
     rt.stdout().write_all(verdict_line(verdict).bytes())?;

@@ -5,6 +5,8 @@ ghost use mathlib.Core.Path.{_≡_};
 ghost use Prim.Native.Nat.{_≤_};
 ghost use Rattle.routine.specs.Limits.{everyFieldFits};
 use crate::heads::Head;
+use routine::MAX_ROWS;
+use routine::MAX_WORDS;
 use routine::rows::Row;
 
 // The tables handed in are not written before the whole card is accepted, so it is gathered here.
@@ -14,8 +16,8 @@ pub(crate) struct Draft {
     // how many `lab` lines there were, and the word after the last that they cover
     pub labs: u32,
     pub covered: u32,
-    pub labels: [u32; 4096],
-    pub rows: [Row; 256],
+    pub labels: [u32; MAX_WORDS],
+    pub rows: [Row; MAX_ROWS],
     pub count: usize,
     ghost some: { 1 ≤ head .words },
     ghost small: { head .words ≤ 4096 },

@@ -23,11 +23,11 @@ use crate::words::Word;
 use crate::words::word_in;
 use refusals::CardRefusal;
 use refusals::Refusal;
+use routine::MAX_ROWS;
+use routine::MAX_WORDS;
 use routine::Source;
 use routine::check;
 use routine::rows::Row;
-
-const MAX_ROWS: usize = 256;
 
 // Gives the label to the words from `from` up to `to`.
 fn paint(labels: &mut [u32], from: usize, to: usize, label: u32)
@@ -49,8 +49,8 @@ impl Draft {
             head,
             labs: 0,
             covered: 0,
-            labels: [0; 4096],
-            rows: [Row::Halt; 256],
+            labels: [0; MAX_WORDS],
+            rows: [Row::Halt; MAX_ROWS],
             count: 0,
         }
     }

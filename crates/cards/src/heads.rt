@@ -9,6 +9,7 @@ ghost use Rattle.cards.specs.Text.{fourTexts};
 use crate::lines::Fields;
 use crate::lines::is_same;
 use crate::numbers::plain;
+use routine::MAX_WORDS;
 
 // The kinds of label that a card can name.
 #[derive(Clone, Copy)]
@@ -34,8 +35,6 @@ pub struct Lab {
     pub count: u32,
     pub label: u32,
 }
-
-const MAX_WORDS: u32 = 4096;
 
 // The largest number that a label of the kind is written as.
 fn label_limit(kind: LabelKind) -> u32
@@ -73,7 +72,7 @@ pub(crate) fn head_in(fields: &Fields) -> Result<Head, usize>
     let Some(reader) = plain(fields.third, 0, label_limit(kind)) else {
         return Err(3);
     };
-    let Some(words) = plain(fields.fourth, 1, MAX_WORDS) else {
+    let Some(words) = plain(fields.fourth, 1, MAX_WORDS as u32) else {
         return Err(4);
     };
     Ok(Head {

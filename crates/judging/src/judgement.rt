@@ -11,7 +11,11 @@ use crate::search::verdict_under;
 use facts::types::Fact;
 use labels::Label;
 use refusals::Refusal;
+use routine::MAX_ROWS;
 use routine::Taken;
+
+// As many facts as the work table of the longest routine holds.
+pub const MAX_FACTS: usize = 2 * MAX_ROWS;
 
 // Says whether the work table holds two facts a row. It moves nothing.
 pub fn check<L>(taken: &Taken<L>, table: &[Fact<L>]) -> Result<(), Refusal>

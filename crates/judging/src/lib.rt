@@ -6,6 +6,7 @@ mod search;
 pub mod verdict;
 
 pub use judged::Judged;
+pub use judgement::MAX_FACTS;
 pub use judgement::check;
 pub use judgement::judge;
 pub use verdict::Leak;

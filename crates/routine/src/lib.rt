@@ -9,4 +9,6 @@ pub mod taking;
 pub use source::Source;
 pub use taken::Taken;
 pub use taken::take;
+pub use taking::MAX_ROWS;
+pub use taking::MAX_WORDS;
 pub use taking::check;

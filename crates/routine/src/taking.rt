@@ -12,9 +12,10 @@ use crate::rows::Row;
 use crate::source::Source;
 use refusals::Refusal;
 
-const MAX_ROWS: usize = 256;
+// As many rows as a routine may have, and as many words as a memory.
+pub const MAX_ROWS: usize = 256;
 
-const MAX_WORDS: usize = 4096;
+pub const MAX_WORDS: usize = 4096;
 
 const LAST_REGISTER: u8 = 15;
 

@@ -3,6 +3,8 @@
 use answers::answer;
 use cards::read;
 use refusals::CardRefusal;
+use routine::MAX_ROWS;
+use routine::MAX_WORDS;
 use routine::rows::Row;
 use std::error::AnyError;
 use std::fs;
@@ -46,8 +48,8 @@ fn cause_number(refusal: CardRefusal) -> u8 {
 
 fn has_cause(card: &[u8], cause: &str) -> Result<bool, AnyError> {
     let expected: u8 = cause.parse()?;
-    let mut rows = [Row::Halt; 256];
-    let mut labels = [0; 4096];
+    let mut rows = [Row::Halt; MAX_ROWS];
+    let mut labels = [0; MAX_WORDS];
     match read(card, &mut rows, &mut labels) {
         Ok(_) => Ok(false),
         Err(refusal) => Ok(cause_number(refusal) == expected),
