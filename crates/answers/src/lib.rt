@@ -1,4 +1,6 @@
 // From a card's bytes to the line that answers it.
+#![tactic(auto)]
+
 mod answering;
 mod numbered;
 

@@ -1,4 +1,6 @@
 // Takes and judges the bench table's routines and some more, and prints what was taken and the verdict line.
+#![tactic(auto)]
+
 use cases::{Case, bench_labels};
 use facts::types::Fact;
 use judging::{MAX_FACTS, Verdict};

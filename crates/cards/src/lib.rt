@@ -1,4 +1,6 @@
 // Routine cards: the text that a maker writes, and the routine that it stands for.
+#![tactic(auto)]
+
 pub mod accepted;
 mod draft;
 mod drafting;

@@ -1,5 +1,7 @@
 // The bench table: seven routines that share a memory, and the verdict that the rules give each; and what the first of them
 // shows on the guessing machine.
+#![tactic(auto)]
+
 ghost use Rattle.std.specs.Prelude.{◌≡◌};
 ghost use Rattle.cases.specs.Bench.{rows_in, bench_labels, BenchTable};
 

@@ -1,4 +1,6 @@
 // Facts about registers: what a row hands on, and what leaks at it.
+#![tactic(auto)]
+
 pub mod leaks;
 mod order;
 mod registers;

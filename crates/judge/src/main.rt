@@ -1,4 +1,6 @@
 // Reads a routine card on standard input and writes the line that answers it: its verdict, or why it is declined.
+#![tactic(auto)]
+
 use answers::answer;
 use std::io::{Read, Write};
 

@@ -1,4 +1,6 @@
 // Judging: the least closed table of facts of a routine, and the verdict that it gives.
+#![tactic(auto)]
+
 pub mod judged;
 pub mod judgement;
 mod least;

@@ -1,5 +1,7 @@
 // Kinds of label. A label says whose figures a value may depend on; a reader is a label too, and may read
 // what is labelled at or below it.
+#![tactic(auto)]
+
 ghost use Rattle.std.specs.Prelude.{◌≡◌, ◌≤◌};
 ghost use Rattle.labels.specs.Kind.{Kind, Lawful};
 

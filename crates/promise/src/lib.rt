@@ -1,5 +1,7 @@
 // What a verdict promises of the machines that a routine runs on, proved of their rules. Each function stands for a theorem,
 // which is its contract.
+#![tactic(auto)]
+
 ghost use Rattle.promise.specs.Invisible.{GuessingInvisible};
 ghost use Rattle.promise.specs.Promise.{PromiseKept};
 ghost use Rattle.promise.specs.Truth.{FactsTrue};

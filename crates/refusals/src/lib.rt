@@ -1,4 +1,6 @@
 // Why a call is declined: every refusal, with the number, the place and the layer that it tells.
+#![tactic(auto)]
+
 ghost use Rattle.std.specs.Prelude.{◌≡◌};
 ghost use Rattle.refusals.specs.Told.{told};
 

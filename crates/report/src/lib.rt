@@ -1,4 +1,6 @@
 // Reporting: the one line that tells a verdict, or tells why a card is declined.
+#![tactic(auto)]
+
 mod declined;
 pub mod line;
 mod verdicts;

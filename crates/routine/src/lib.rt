@@ -1,4 +1,6 @@
 // Rows, what they do to registers, which words they can reach, and the taking of a routine.
+#![tactic(auto)]
+
 pub mod addressing;
 pub mod effects;
 pub mod rows;

@@ -1,5 +1,7 @@
 // Tries every card of the lists beside it and says which are not answered as expected; then reads one card into tables of several
 // lengths.
+#![tactic(auto)]
+
 use answers::answer;
 use anyhow::anyhow;
 use cards::read;
