@@ -1,6 +1,6 @@
 -- The order and the join of registers' facts, place by place.
-use Rattle.std.proofs.Common.{◌≡◌, ℕ, zero, suc, ◌+◌, ◌<◌, ◌≤◌, Bool, true, false, ◌&&◌, List, [], ◌∷◌, length, get_or, drop, sym, refl, ap, ◌∙◌, ap₂, arith}
-use Rattle.std.proofs.lemmas.List.{drop_more, drop_all}
+use Rattle.std.proofs.Common.{◌≡◌, ℕ, zero, suc, ◌+◌, ◌<◌, ◌≤◌, ◌&&◌, List, [], ◌∷◌, length, get_or, drop, refl, ap, ap₂, arith}
+use Rattle.std.proofs.lemmas.List.{drop_more}
 use Rattle.labels.specs.Kind.{Kind}
 use Rattle.facts.specs.declared.types.Known.{Known}
 use Rattle.facts.specs.Order.{below_known, below_all, join_known, join_all}

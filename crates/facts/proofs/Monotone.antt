@@ -1,6 +1,6 @@
 -- Every rule keeps the order: from lower facts, lower facts are handed on, and whatever leaks also leaks under higher ones.
-use Rattle.std.proofs.Common.{◌≡◌, ℕ, suc, ◌+◌, ◌-◌, ◌≤◌, min, max, Bool, true, false, cond, not, ◌&&◌, ◌||◌, List, [], ◌∷◌, length, sym, refl, ap, ◌∙◌, subst, ⊎_elim, arith}
-use Rattle.std.proofs.lemmas.Bool.{and_parts, and_from, or_cases, or_left, or_right, cases_Bool, cond-true, cond-false, not-true, not_from_false, both_ways, false≢true}
+use Rattle.std.proofs.Common.{◌≡◌, ℕ, ◌+◌, ◌≤◌, min, Bool, true, false, cond, not, ◌&&◌, List, [], ◌∷◌, length, refl, ⊎_elim, arith}
+use Rattle.std.proofs.lemmas.Bool.{and_parts, and_from, or_cases, or_left, or_right, cases_Bool, not-true, not_from_false, both_ways, false≢true}
 use Rattle.labels.specs.Kind.{Kind, Lawful}
 use Rattle.routine.specs.Address.{in_window}
 use Rattle.routine.proofs.Address.{window_wider}
@@ -20,10 +20,10 @@ use Rattle.facts.specs.declared.types.Known.{Known}
 use Rattle.facts.specs.declared.types.Fact.{Fact}
 use Rattle.facts.specs.declared.types.Fact.TheVariants.{Unreached, Reached}
 use Rattle.facts.specs.Order.{knows, known_at, below_known, below_all, below_fact}
-use Rattle.facts.specs.Rules.{bits_of, width_after, of_operand, join_from, join_window, result_of, after, narrowed, at_target, at_next, Handed, hand, onward, hands}
-use Rattle.facts.specs.Leaks.{hidden, hidden_operand, spills_from, spills, leaks}
+use Rattle.facts.specs.Rules.{bits_of, width_after, of_operand, join_from, result_of, after, narrowed, at_target, at_next, Handed, hand, onward, hands}
+use Rattle.facts.specs.Leaks.{hidden, hidden_operand, spills_from, leaks}
 use Rattle.facts.specs.Tables.{fact_at, admits, hands_fact, leaks_fact}
-use Rattle.facts.proofs.Orders.{parts, from_parts, all_refl, all_trans, at_mono, set_mono, fact_trans}
+use Rattle.facts.proofs.Orders.{parts, from_parts, at_mono, set_mono, fact_trans}
 
 -- the width after a computing word, at most 32
 width_mono : (o : Operation) (right : Operand) (a b v w : ℕ) → a ≤ b → v ≤ w → min 32 (width_after o a right v) ≤ min 32 (width_after o b right w)

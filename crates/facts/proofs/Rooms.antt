@@ -1,6 +1,6 @@
 -- A fact that rises has less room left.
-use Rattle.std.proofs.Common.{◌≡◌, ℕ, ◌+◌, ◌-◌, ◌*◌, ◌<◌, ◌≤◌, max, Bool, true, false, ◌&&◌, leb, ◌⊎◌, List, [], ◌∷◌, length, Some, sym, refl, ap, ◌∙◌, subst, inl, inr, ⊎_elim, suc-mul, arith}
-use Rattle.std.proofs.lemmas.Bool.{cases_Bool, and_cases, and_parts, leb-false, leb-true, both_ways}
+use Rattle.std.proofs.Common.{◌≡◌, ◌+◌, ◌*◌, ◌<◌, ◌≤◌, true, false, leb, List, [], ◌∷◌, length, Some, sym, refl, ap, subst, ⊎_elim, suc-mul, arith}
+use Rattle.std.proofs.lemmas.Bool.{cases_Bool, and_cases, leb-false, both_ways}
 use Rattle.labels.specs.Kind.{Kind, Lawful}
 use Rattle.facts.specs.declared.types.Known.{Known}
 use Rattle.facts.specs.declared.types.Fact.{Fact}

@@ -1,5 +1,5 @@
 -- What a row hands on, to which row and in which mode.
-use Rattle.std.specs.Prelude.{ℕ, suc, ◌+◌, ◌-◌, min, max, Bool, cond, List, [], ◌∷◌, length, slice_set}
+use Rattle.std.specs.Prelude.{ℕ, suc, ◌+◌, ◌-◌, min, max, cond, List, [], ◌∷◌, length, slice_set}
 use Rattle.std.specs.Int.Count.{count_leading_zeros}
 use Rattle.labels.specs.Kind.{Kind}
 use Rattle.routine.specs.Address.{in_window}

@@ -1,7 +1,7 @@
 // What is known of one register or operand.
 ghost use Rattle.std.specs.Prelude.{◌≡◌, ℕ, ◌+◌, ◌-◌, min, length, slice_set};
 ghost use Rattle.facts.specs.Order.{known_at};
-ghost use Rattle.facts.specs.Rules.{bits_of, of_operand, width_after, result, narrowed};
+ghost use Rattle.facts.specs.Rules.{bits_of, of_operand, width_after, result_of, narrowed};
 
 use crate::types::{Known, Registers};
 use labels::Label;
@@ -9,7 +9,7 @@ use routine::rows::{Operand, Operation};
 
 // Of a register that there is not, what is known at the start.
 pub(crate) fn known_at<L: Label>(known: &Registers<L>, register: u8) -> Known<L>
-    ensures* { λ r. ⌜ r ≡ known_at L.Label.kind known.now register ⌝ }
+    ensures { result ≡ known_at L.Label.kind known.now register }
 {
     match known.get(register as usize) {
         Some(k) => *k,
@@ -22,8 +22,8 @@ pub(crate) fn known_at<L: Label>(known: &Registers<L>, register: u8) -> Known<L>
 
 // A copy. What holds a type parameter is not copied whole from behind a reference, so this goes register by register.
 pub(crate) fn copied<L: Label>(known: &Registers<L>) -> Registers<L>
-    ensures* value { λ r. ⌜ r ≡ known.now ⌝ }
-    ensures* long { λ r. ⌜ length r ≡ 16 ⌝ }
+    ensures value { result ≡ known.now }
+    ensures long { length result ≡ 16 }
 {
     let all: &[Known<L>] = known;
     let nothing = Known {
@@ -39,7 +39,7 @@ pub(crate) fn copied<L: Label>(known: &Registers<L>) -> Registers<L>
 
 // The registers with one replaced.
 pub(crate) fn with<L: Label>(mut known: Registers<L>, register: u8, new: Known<L>) -> Registers<L>
-    ensures* { λ r. ⌜ r ≡ slice_set known register new ⌝ }
+    ensures { result ≡ slice_set known register new }
 {
     let at = register as usize;
     if at < 16 {
@@ -50,13 +50,13 @@ pub(crate) fn with<L: Label>(mut known: Registers<L>, register: u8, new: Known<L
 
 // The count of significant bits.
 pub(crate) fn bits_of(n: u32) -> u8
-    ensures* { λ r. ⌜ r ≡ bits_of n ⌝ }
+    ensures { result ≡ bits_of n }
 {
     (32 - n.leading_zeros()) as u8
 }
 
 pub(crate) fn of_operand<L: Label>(known: &Registers<L>, operand: Operand) -> Known<L>
-    ensures* { λ r. ⌜ r ≡ of_operand L.Label.kind known.now operand ⌝ }
+    ensures { result ≡ of_operand L.Label.kind known.now operand }
 {
     match operand {
         Operand::Register(register) => known_at(known, register),
@@ -69,7 +69,7 @@ pub(crate) fn of_operand<L: Label>(known: &Registers<L>, operand: Operand) -> Kn
 
 // The width of a computing word's result, at most 32.
 pub(crate) fn width_after(operation: Operation, left: u8, right: Operand, right_width: u8) -> u8
-    ensures* { λ r. ⌜ r ≡ min 32 (width_after operation left right right_width) ⌝ }
+    ensures { result ≡ min 32 (width_after operation left right right_width) }
 {
     let a = left as u64;
     let b = right_width as u64;
@@ -99,7 +99,7 @@ pub(crate) fn result_of<L: Label>(
     right: Operand,
     other: Known<L>,
 ) -> Known<L>
-    ensures* { λ r. ⌜ r ≡ result L.Label.kind operation left right other ⌝ }
+    ensures { result ≡ result_of L.Label.kind operation left right other }
 {
     Known {
         label: left.label.join(other.label),
@@ -109,7 +109,7 @@ pub(crate) fn result_of<L: Label>(
 
 // The registers with the width of one replaced by the smaller of two.
 pub(crate) fn narrow<L: Label>(known: Registers<L>, register: u8, width: u8) -> Registers<L>
-    ensures* { λ r. ⌜ r ≡ narrowed L.Label.kind known register width ⌝ }
+    ensures { result ≡ narrowed L.Label.kind known register width }
 {
     let old = known_at(&known, register);
     with(
