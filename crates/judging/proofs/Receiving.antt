@@ -1,5 +1,5 @@
 -- What receiving facts does to a table, one fact after another.
-use Rattle.std.proofs.Common.{◌≡◌, ℕ, ◌+◌, ◌*◌, ◌<◌, ◌≤◌, Bool, true, false, ◌&&◌, ◌≢◌, List, [], ◌∷◌, ◌++◌, length, get_or, set, sym, refl, ap, ◌∙◌, subst, ⊎_elim, arith, length-set}
+use Rattle.std.proofs.Common.{◌≡◌, ℕ, ◌<◌, Bool, true, false, List, [], ◌∷◌, ◌++◌, length, get_or, set, sym, refl, ap, ◌∙◌, subst, ⊎_elim, arith, length-set}
 use Rattle.std.proofs.lemmas.List.{get_or-set_same, get_or-set_other}
 use Rattle.std.proofs.lemmas.Bool.{cases_eq, and_parts, and_from, false≢true}
 use Rattle.labels.specs.Kind.{Kind, Lawful}
@@ -11,7 +11,7 @@ use Rattle.facts.specs.Order.{below_fact}
 use Rattle.facts.specs.Raising.{RisenTo}
 use Rattle.facts.specs.Tables.{slot, fact_at, admits}
 use Rattle.facts.proofs.Orders.{fact_refl, fact_trans}
-use Rattle.judging.specs.Steps.{Under, Received, weight}
+use Rattle.judging.specs.Steps.{Under, Received}
 use Rattle.judging.proofs.Weights.{mark_stale, rooms_fall}
 
 module _ {L : Type 0} (K : Kind L) (laws : Lawful K) where

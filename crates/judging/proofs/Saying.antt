@@ -1,5 +1,5 @@
 -- What the least table leaks, every closed table leaks: so it gives the verdict.
-use Rattle.std.proofs.Common.{◌≡◌, ℕ, true, false, List, get_or, Some, None, Option}
+use Rattle.std.proofs.Common.{List, get_or, Some, None, Option}
 use Rattle.std.proofs.lemmas.Bool.{both_ways}
 use Rattle.labels.specs.Kind.{Kind, Lawful}
 use Rattle.routine.specs.declared.rows.Row.{Row}

@@ -1,6 +1,6 @@
 -- The search over slots finds the first leak in the rules' order, or there is none.
-use Rattle.std.proofs.Common.{◌≡◌, ℕ, zero, suc, ◌+◌, ◌*◌, ◌/◌, ◌<◌, ◌≤◌, Bool, true, false, cond, ◌&&◌, List, length, get_or, Some, None, Option, sym, refl, ap, ◌∙◌, subst, ap₂, ⊎_elim, arith}
-use Rattle.std.proofs.lemmas.Bool.{cases_order, cases_Bool, and_parts, and_from, both_ways, false≢true, true≢false}
+use Rattle.std.proofs.Common.{◌≡◌, ℕ, zero, suc, ◌+◌, ◌*◌, ◌/◌, ◌<◌, ◌≤◌, Bool, true, false, cond, List, length, get_or, Some, None, Option, sym, refl, ap, ◌∙◌, subst, ⊎_elim, arith}
+use Rattle.std.proofs.lemmas.Bool.{cases_order, cases_Bool, and_parts, and_from, both_ways}
 use Rattle.labels.specs.Kind.{Kind}
 use Rattle.routine.specs.declared.rows.Row.{Row}
 use Rattle.routine.specs.declared.rows.Row.TheVariants as row
@@ -11,9 +11,9 @@ use Rattle.facts.specs.declared.types.Sought.{Sought}
 use Rattle.facts.specs.declared.types.Fact.{Fact}
 use Rattle.facts.specs.declared.types.Fact.TheVariants.{Unreached, Reached}
 use Rattle.facts.specs.Leaks.{counts, first_reason, sought_leak, leaks}
-use Rattle.facts.specs.Tables.{slot, fact_at, leaks_fact, leaks_at}
+use Rattle.facts.specs.Tables.{slot, leaks_fact, leaks_at}
 use Rattle.judging.specs.declared.verdict.Leak.{Leak}
-use Rattle.judging.specs.Verdicts.{reason_number, place, NoLeak, First, Found}
+use Rattle.judging.specs.Verdicts.{reason_number, First, Found}
 use Rattle.judging.specs.Steps.{mode_at, leak_of, found_at, first_from}
 use Rattle.judging.proofs.Places.{slot_of_place, row_of_slot, mode_of_slot, slot_inside}
 

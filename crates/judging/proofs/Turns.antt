@@ -1,18 +1,18 @@
 -- What holds between turns: at the beginning, after every turn, and once nothing is stale.
-use Rattle.std.proofs.Common.{◌≡◌, ℕ, ◌+◌, ◌*◌, ◌/◌, ◌<◌, ◌≤◌, Bool, true, false, ◌≢◌, List, [], ◌∷◌, length, get_or, set, replicate, Some, None, sym, refl, ap, ◌∙◌, subst, ap₂, ⊎_elim, arith, length-set}
+use Rattle.std.proofs.Common.{◌≡◌, ℕ, ◌*◌, ◌/◌, ◌<◌, ◌≤◌, Bool, true, false, ◌≢◌, List, [], length, get_or, set, replicate, Some, None, sym, refl, ap, ◌∙◌, subst, ap₂, ⊎_elim, arith, length-set}
 use Rattle.std.proofs.lemmas.List.{get_or-set_same, get_or-set_other, get_or-replicate, get_or_past, get_or_default, length-replicate}
 use Rattle.std.proofs.lemmas.Bool.{cases_eq, cases_lt, false≢true}
 use Rattle.labels.specs.Kind.{Kind, Lawful}
 use Rattle.routine.specs.declared.rows.Row.{Row}
 use Rattle.routine.specs.declared.rows.Row.TheVariants as row
 use Rattle.facts.specs.declared.types.Mode.{Mode}
-use Rattle.facts.specs.declared.types.Mode.TheVariants.{Settled, Guessed}
+use Rattle.facts.specs.declared.types.Mode.TheVariants.{Settled}
 use Rattle.facts.specs.declared.types.Known.{Known}
 use Rattle.facts.specs.declared.types.Fact.{Fact}
 use Rattle.facts.specs.declared.types.Fact.TheVariants.{Unreached, Reached}
 use Rattle.facts.specs.Order.{start, below_fact}
 use Rattle.facts.specs.Rules.{hands}
-use Rattle.facts.specs.Tables.{slot, fact_at, known_of, hands_fact, hands_at, admits, Closed}
+use Rattle.facts.specs.Tables.{slot, fact_at, known_of, hands_fact, hands_at, admits}
 use Rattle.facts.proofs.Orders.{all_refl, fact_trans}
 use Rattle.facts.proofs.Monotone.{facts_admitted}
 use Rattle.judging.specs.Steps.{mode_at, beginning, Under, Received, Running, weight}

@@ -1,5 +1,5 @@
 -- What is left to do, and how it falls.
-use Rattle.std.proofs.Common.{◌≡◌, ℕ, zero, suc, ◌+◌, ◌*◌, ◌<◌, ◌≤◌, Bool, true, false, cond, List, [], ◌∷◌, length, get_or, set, sym, refl, ap, ◌∙◌, arith}
+use Rattle.std.proofs.Common.{◌≡◌, ℕ, zero, suc, ◌+◌, ◌<◌, ◌≤◌, Bool, true, false, List, [], ◌∷◌, length, get_or, set, arith}
 use Rattle.std.proofs.lemmas.Bool.{false≢true}
 use Rattle.labels.specs.Kind.{Kind}
 use Rattle.facts.specs.declared.types.Fact.{Fact}

@@ -1,4 +1,4 @@
-use Rattle.std.proofs.Common.{◌≡◌, ℕ, ◌-◌, ◌*◌, ◌≤◌, true, List, ◌++◌, length, take, drop, sym, ap, ◌∙◌, subst, ap₂, subst₂, arith, rules}
+use Rattle.std.proofs.Common.{◌≡◌, ℕ, ◌-◌, ◌*◌, ◌≤◌, true, List, ◌++◌, length, take, drop, sym, ap, ◌∙◌, subst, subst₂, arith, rules}
 use Rattle.std.proofs.lemmas.List.{take_at, drop_at, length-take-le}
 use Rattle.labels.specs.Kind.{Kind, Lawful}
 use Rattle.routine.specs.Limits.{within}
@@ -9,7 +9,7 @@ use Rattle.facts.specs.declared.types.Sought.TheVariants.{AnyLeak, SpillOrGuesse
 use Rattle.facts.specs.declared.types.Fact.{Fact}
 use Rattle.judging.specs.declared.verdict.Verdict.{Verdict}
 use Rattle.judging.specs.Steps.{Valid, first_from, verdict_from}
-use Rattle.judging.specs.Verdicts.{Least, Says, Found, Judges}
+use Rattle.judging.specs.Verdicts.{Least, Says, Judges}
 use Rattle.judging.proofs.Searching.{first_found}
 use Rattle.judging.proofs.Saying.{says}
 use Rattle.judging.proofs.judgement.judge.Goals as goal
@@ -41,8 +41,8 @@ part-long table rows rows' same few =
     let whole : 2 * length rows - 0 ≡ 2 * length rows = omega arith in
     ap (λ n. length (take n table)) whole ∙ length-take-le (2 * length rows) table (subst (λ r. 2 * length r ≤ length table) (sym same) few)
 
-pub fill-least-requires : goal.fill-least-requires
-fill-least-requires g c =
+pub fill_least-requires : goal.fill_least-requires
+fill_least-requires g c =
     let taken = c.args.taken in (
       search rules,
       (
@@ -51,12 +51,12 @@ fill-least-requires g c =
       ),
     )
 
-pub verdict-under-verdict-requires : goal.verdict-under-verdict-requires
-verdict-under-verdict-requires g c =
+pub verdict_under-verdict-requires : goal.verdict_under-verdict-requires
+verdict_under-verdict-requires g c =
     let taken = c.args.taken in (
       search rules,
       (
-        c.fill-least.auto.table ∙ part-long c.args.table.now c.rows-rows.result.now (rows_of taken) c.rows-rows.ensures c.requires,
+        c.fill_least.auto.table ∙ part-long c.args.table.now c.rows-rows.result.now (rows_of taken) c.rows-rows.ensures c.requires,
         subst (λ rows. length rows ≤ 256) (sym c.rows-rows.ensures) (few_rows (rows_of taken) taken.words (length (labels_of taken)) taken.fits),
       ),
     )
@@ -65,14 +65,14 @@ pub returns : goal.returns
 returns g c =
     let rows = c.rows-rows.result.now in
     let table = c.args.table.now in
-    let work = c.fill-least.new.table in
+    let work = c.fill_least.new.table in
     let whole : 2 * length rows - 0 ≡ 2 * length rows = omega arith in
-    let long = c.fill-least.auto.table ∙ part-long table rows (rows_of c.args.taken) c.rows-rows.ensures c.requires in
-    let judged = judges g.L.Label.kind g.L.Label.lawful c.labels-labels.result.now rows c.args.reader table work c.verdict-under-verdict.result
-    (2 * length rows - 0) whole long c.fill-least.ensures c.verdict-under-verdict.ensures in
+    let long = c.fill_least.auto.table ∙ part-long table rows (rows_of c.args.taken) c.rows-rows.ensures c.requires in
+    let judged = judges g.L.Label.kind g.L.Label.lawful c.labels-labels.result.now rows c.args.reader table work c.verdict_under-verdict.result
+    (2 * length rows - 0) whole long c.fill_least.ensures c.verdict_under-verdict.ensures in
     record {
       moved = search rules;
       reads = search rules;
-      judged = subst₂ (λ ls rs. Judges g.L.Label.kind ls rs c.args.reader table (work ++ drop (2 * length rows - 0) table) c.verdict-under-verdict.result)
+      judged = subst₂ (λ ls rs. Judges g.L.Label.kind ls rs c.args.reader table (work ++ drop (2 * length rows - 0) table) c.verdict_under-verdict.result)
           c.labels-labels.ensures c.rows-rows.ensures judged;
     }

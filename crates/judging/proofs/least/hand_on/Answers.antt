@@ -1,7 +1,4 @@
-use Rattle.std.proofs.Common.{◌≡◌, ◌+◌, [], ◌∷◌, sym, refl, subst, ap₂}
-use Rattle.routine.specs.declared.rows.Row.{Row}
-use Rattle.routine.specs.declared.rows.Row.TheVariants as row
-use Rattle.facts.specs.declared.types.Mode.{Mode}
+use Rattle.std.proofs.Common.{◌+◌, [], ◌∷◌, sym, subst, ap₂}
 use Rattle.facts.specs.declared.types.Mode.TheVariants.{Settled, Guessed}
 use Rattle.facts.specs.Rules.{hand, hands, at_target, at_next}
 use Rattle.judging.specs.Steps.{Received}
@@ -17,18 +14,18 @@ returns-in-Settled g c =
     let next = c.args.here + 1 in
     let b = c.in-Branch in
     let t₁ = c.args.table.now in
-    let t₂ = c.hand-guessed.new.table in
+    let t₂ = c.hand_guessed.new.table in
     let t₃ = c.receive.new.table in
     let t₄ = c.receive-in-Settled.new.table in
     let s₁ = c.args.stale.now in
-    let s₂ = c.hand-guessed.new.stale in
+    let s₂ = c.hand_guessed.new.stale in
     let s₃ = c.receive.new.stale in
     let s₄ = c.receive-in-Settled.new.stale in
-    let target = subst (λ ks. Received K (hand b.target Settled ks ∷ []) t₂ t₃ s₂ s₃) c.known-at-target-told.ensures c.receive.ensures in
-    let after = subst (λ ks. Received K (hand next Settled ks ∷ []) t₃ t₄ s₃ s₄) c.known-at-next-denied.ensures c.receive-in-Settled.ensures in
+    let target = subst (λ ks. Received K (hand b.target Settled ks ∷ []) t₂ t₃ s₂ s₃) c.known_at_target-told.ensures c.receive.ensures in
+    let after = subst (λ ks. Received K (hand next Settled ks ∷ []) t₃ t₄ s₃ s₄) c.known_at_next-denied.ensures c.receive-in-Settled.ensures in
     let all = received_both K laws (hand b.target Guessed known ∷ hand next Guessed known ∷ [])
     (hand b.target Settled (at_target K b.test b.left b.right known) ∷ hand next Settled (at_next K b.test b.left b.right known) ∷ [])
-    t₁ t₂ t₄ s₁ s₂ s₄ c.hand-guessed.ensures
+    t₁ t₂ t₄ s₁ s₂ s₄ c.hand_guessed.ensures
     (received_both K laws (hand b.target Settled (at_target K b.test b.left b.right known) ∷ []) (hand next Settled (at_next K b.test b.left b.right known) ∷ [])
     t₂ t₃ t₄ s₂ s₃ s₄ target after) in
     subst (λ hs. Received K hs t₁ t₄ s₁ s₄) (ap₂ (λ x m. hands K labels x c.args.here m known) (sym b.is) (sym c.in-Settled.is)) all

@@ -1,4 +1,4 @@
-use Rattle.std.proofs.Common.{◌≡◌, ℕ, ◌<◌, Bool, true, List, [], ◌∷◌, length, get_or, set, sym, ap, ◌∙◌, subst, rules}
+use Rattle.std.proofs.Common.{◌≡◌, ℕ, ◌<◌, true, List, [], ◌∷◌, length, get_or, set, sym, ap, ◌∙◌, subst, rules}
 use Rattle.std.proofs.lemmas.List.{get_or_read}
 use Rattle.facts.specs.declared.types.Fact.{Fact}
 use Rattle.facts.specs.declared.types.Fact.TheVariants.{Unreached, Reached}
@@ -18,11 +18,11 @@ reads : {L : Type 0} (table : List (Fact L)) (at slot : ℕ) (fact : Fact L) →
 reads table at slot fact same h read =
     sym read ∙ get_or_read table at fact (inside table at slot same h) read Unreached ∙ ap (λ n. get_or table n Unreached) same
 
-pub offset-bounds-table-at : goal.offset-bounds-table-at
-offset-bounds-table-at g c = let within = inside c.args.table.now _ _ c.slot-of-at.ensures c.requires.inside in search rules
+pub offset_bounds-table-at : goal.offset_bounds-table-at
+offset_bounds-table-at g c = let within = inside c.args.table.now _ _ c.slot_of-at.ensures c.requires.inside in search rules
 
-pub offset-bounds-table-at-in-Some : goal.offset-bounds-table-at-in-Some
-offset-bounds-table-at-in-Some g c = let within = inside c.args.table.now _ _ c.slot-of-at.ensures c.requires.inside in search rules
+pub offset_bounds-table-at-in-Some : goal.offset_bounds-table-at-in-Some
+offset_bounds-table-at-in-Some g c = let within = inside c.args.table.now _ _ c.slot_of-at.ensures c.requires.inside in search rules
 
 pub returns-in-Some : goal.returns-in-Some
 returns-in-Some g c =
@@ -30,16 +30,16 @@ returns-in-Some g c =
     let table = c.args.table.now in
     let stale = c.args.stale.now in
     let h = hand c.args.row c.args.mode c.args.known.now in
-    let read = reads table _ _ _ c.slot-of-at.ensures c.requires.inside c.index-table-at.is in
-    subst (λ n. Received K (h ∷ []) table (set table n (Reached c.in-Some.risen)) stale (set stale n true)) (sym c.slot-of-at.ensures)
+    let read = reads table _ _ _ c.slot_of-at.ensures c.requires.inside c.index-table-at.is in
+    subst (λ n. Received K (h ∷ []) table (set table n (Reached c.in-Some.risen)) stale (set stale n true)) (sym c.slot_of-at.ensures)
     (received_raised K g.L.Label.lawful h table stale c.in-Some.risen c.requires.inside c.requires.long
     (subst (λ f. RisenTo K f h.known c.in-Some.risen) read c.in-Some.ensures))
 
-pub returns-in-default : goal.returns-in-default
-returns-in-default g c =
+pub returns-in_default : goal.returns-in_default
+returns-in_default g c =
     let K = g.L.Label.kind in
     let table = c.args.table.now in
     let h = hand c.args.row c.args.mode c.args.known.now in
-    let read = reads table _ _ _ c.slot-of-at.ensures c.requires.inside c.index-table-at.is in
+    let read = reads table _ _ _ c.slot_of-at.ensures c.requires.inside c.index-table-at.is in
     received_kept K g.L.Label.lawful h table c.args.stale.now
-    (subst (λ f. below_fact K (Reached h.known) f ≡ true) read c.in-default.ensures)
+    (subst (λ f. below_fact K (Reached h.known) f ≡ true) read c.in_default.ensures)

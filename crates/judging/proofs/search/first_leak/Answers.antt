@@ -1,4 +1,4 @@
-use Rattle.std.proofs.Common.{◌≡◌, ℕ, suc, ◌+◌, ◌-◌, ◌*◌, ◌/◌, ◌<◌, List, length, get_or, Some, None, Option, sym, refl, ap, ◌∙◌, subst, ap₂, arith}
+use Rattle.std.proofs.Common.{◌≡◌, ℕ, suc, ◌+◌, ◌-◌, ◌*◌, ◌/◌, ◌<◌, List, length, get_or, Some, None, Option, sym, ap, ◌∙◌, subst, ap₂, arith}
 use Rattle.std.proofs.lemmas.List.{get_or_default, get_or_read}
 use Rattle.labels.specs.Kind.{Kind}
 use Rattle.routine.specs.declared.rows.Row.{Row}
@@ -34,16 +34,16 @@ at_place table s at m f is mode read = subst (λ n. f ≡ get_or table n f) (is 
 pub returns-in-Some : goal.returns-in-Some
 returns-in-Some g c =
     let s = c.loop-place.place in
-    let read = at_place c.args.table.now s c.slot-of-at.result c.mode-of-mode.result c.index-table-at.result c.slot-of-at.ensures c.mode-of-mode.ensures c.index-table-at.is in
+    let read = at_place c.args.table.now s c.slot_of-at.result c.mode_of-mode.result c.index-table-at.result c.slot_of-at.ensures c.mode_of-mode.ensures c.index-table-at.is in
     let found = step g.L.Label.kind c.args.labels.now c.args.reader c.args.rows.now c.args.table.now c.args.sought s
-    c.index-table-at.result c.mode-of-mode.result (Some c.in-Some.reason) c.loop-place-test.true c.requires.long read c.mode-of-mode.ensures c.in-Some.ensures in
-    ap (λ m. Some (record { row = s / 2; mode = m; reason = c.in-Some.reason })) c.mode-of-mode.ensures ∙ sym found ∙ c.loop-place.invariant
+    c.index-table-at.result c.mode_of-mode.result (Some c.in-Some.reason) c.loop-place-test.true c.requires.long read c.mode_of-mode.ensures c.in-Some.ensures in
+    ap (λ m. Some (record { row = s / 2; mode = m; reason = c.in-Some.reason })) c.mode_of-mode.ensures ∙ sym found ∙ c.loop-place.invariant
 
 pub loop-place-preserved : goal.loop-place-preserved
 loop-place-preserved g c =
-    let read = at_place c.args.table.now c.loop-place.place c.slot-of-at.result c.mode-of-mode.result c.index-table-at.result c.slot-of-at.ensures c.mode-of-mode.ensures c.index-table-at.is in
+    let read = at_place c.args.table.now c.loop-place.place c.slot_of-at.result c.mode_of-mode.result c.index-table-at.result c.slot_of-at.ensures c.mode_of-mode.ensures c.index-table-at.is in
     sym (step g.L.Label.kind c.args.labels.now c.args.reader c.args.rows.now c.args.table.now c.args.sought c.loop-place.place
-    c.index-table-at.result c.mode-of-mode.result None c.loop-place-test.true c.requires.long read c.mode-of-mode.ensures c.in-default.ensures)
+    c.index-table-at.result c.mode_of-mode.result None c.loop-place-test.true c.requires.long read c.mode_of-mode.ensures c.in_default.ensures)
     ∙ c.loop-place.invariant
 
 pub returns : goal.returns
