@@ -3,11 +3,11 @@ use Rattle.std.proofs.lemmas.Fmt.{decimal_digit, decimal_step, decimal_nonempty}
 use Rattle.report.proofs.line.Line.+push_decimal.Goals as goal
 use Rattle.report.proofs.line.Line.+push_decimal.Goals.{then-n-ge10, else-n-ge10}
 
-pub push-decimal-requires : goal.push-decimal-requires
-push-decimal-requires t c = search (rules, length-append, decimal_step)
+pub push_decimal-requires : goal.push_decimal-requires
+push_decimal-requires t c = search (rules, length-append, decimal_step)
 
-pub push-text-requires : goal.push-text-requires
-push-text-requires t c = search (rules, length-append, decimal_step, decimal_nonempty)
+pub push_text-requires : goal.push_text-requires
+push_text-requires t c = search (rules, length-append, decimal_step, decimal_nonempty)
 
 pub returns : goal.returns
 returns t c =
