@@ -1,6 +1,6 @@
 -- Lemmas on a card's lines: reading one after the other is the inverse of writing them.
 use Rattle.std.proofs.Common.{◌≡◌, ℕ, suc, ◌+◌, ◌<◌, ◌≤◌, true, eqb, leb, List, [], ◌∷◌, ◌++◌, length, Some, None, Ok, Err, codes, Option, Result, sym, refl, ap, ◌∙◌, subst, ⊎_elim, arith}
-use Rattle.std.specs.List.{flat_map, AllByRecursion as All}
+use Rattle.std.specs.List.{flat_map, AllByRecursion}
 use Rattle.std.specs.Str.{bytes_eq}
 use Rattle.std.proofs.ByRecursion.{All-push}
 use Rattle.std.proofs.lemmas.Slice.Eq.{bytes_eq-Decides}
@@ -30,7 +30,7 @@ use Rattle.cards.proofs.HeadLines.{HeadFits, head_sound, head_complete, lab_soun
 pub record Fits (card : Card) : Type 0 where
   pub head : HeadFits card.head
   pub labs : labs_fit card.head 0 card.labs ≡ true
-  pub rows : All (Fitting card.head.words) card.rows
+  pub rows : AllByRecursion (Fitting card.head.words) card.rows
   pub count : length card.rows ≤ 256
 
 -- one more `lab` line
@@ -200,7 +200,7 @@ labs_read head head-fits before (lab ∷ labs) n rest fits =
     )
 
 -- all rows, after those before them
-rows_read : (head : Head) → HeadFits head → (labs : List Lab) (before rows : List Row) (n : ℕ) → All (Fitting head.words) rows
+rows_read : (head : Head) → HeadFits head → (labs : List Lab) (before rows : List Row) (n : ℕ) → AllByRecursion (Fitting head.words) rows
     → length before + length rows ≤ 256 → lines_in (made_of head labs before) n (lines_of (flat_map row_line_text rows)) ≡ Ok (made_of head labs (before ++ rows))
 unfolding lines_in split
 rows_read head head-fits labs before [] n fits room = ap (λ rows. Ok (made_of head labs rows)) (sym (append-nil before))

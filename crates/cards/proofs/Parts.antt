@@ -1,7 +1,7 @@
 -- Lemmas on a field's parts.
-use Rattle.std.proofs.Common.{◌≡◌, ℕ, ◌-◌, ◌<◌, List, [], ◌∷◌, length, get_or, take, drop, sym, refl, ap, ◌∙◌, arith}
+use Rattle.std.proofs.Common.{◌≡◌, ℕ, ◌-◌, ◌<◌, List, [], ◌∷◌, length, get_or, take, drop, sym, ap, ◌∙◌, arith}
 use Rattle.std.proofs.lemmas.List.{take_rest}
-use Rattle.cards.specs.Fields.{Part, register, constant, part_of}
+use Rattle.cards.specs.Fields.{register, constant, part_of}
 
 -- what follows the first byte
 pub part_register : (text : List ℕ) → 0 < length text → get_or text 0 0 ≡ 114 → register (take (length text - 1) (drop 1 text)) ≡ part_of text

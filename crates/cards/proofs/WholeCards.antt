@@ -1,19 +1,16 @@
 -- Lemmas on whole cards: reading and writing are inverse.
-use Rattle.std.proofs.Common.{◌≡◌, ℕ, zero, suc, ◌+◌, ◌-◌, ◌<◌, ◌≤◌, Bool, true, false, cond, ◌&&◌, eqb, leb, List, [], ◌∷◌, ◌++◌, length, get_or, take, Some, None, Ok, Err, Option, Result, sym, refl, ap, ◌∙◌, subst, zero-add, arith}
+use Rattle.std.proofs.Common.{◌≡◌, ℕ, ◌+◌, ◌-◌, ◌≤◌, true, ◌&&◌, eqb, leb, List, [], ◌∷◌, ◌++◌, length, get_or, take, Ok, sym, refl, ap, ◌∙◌, subst, arith}
 use Rattle.std.specs.List.{flat_map}
 use Rattle.std.proofs.ByRecursion.{All-get_or, All-from_get_or, All-weaker}
 use Rattle.std.proofs.lemmas.List.{append_assoc, append-nil, length_push, get_or_push, take_more, take_all}
-use Rattle.std.proofs.lemmas.Bool.{and_parts, and_from, eqb-true, eqb-false, eq-eqb, ne_eqb, leb-true, le-leb, cond-true, cond-false}
-use Rattle.refusals.specs.declared.cards.CardRefusal.{CardRefusal}
-use Rattle.refusals.specs.declared.cards.CardRefusal.TheVariants as refusal
-use Rattle.routine.specs.declared.rows.Row.{Row}
+use Rattle.std.proofs.lemmas.Bool.{and_parts, and_from, eqb-true, eq-eqb, leb-true, le-leb, cond-true}
 use Rattle.routine.specs.declared.rows.Row.TheVariants.{Halt}
-use Rattle.routine.specs.Limits.{fields_fit, target_fits, every_target_fits, last_ends}
+use Rattle.routine.specs.Limits.{fields_fit}
 use Rattle.routine.proofs.Limits.{every_from, within_parts, within_from, few_rows, some_words, few_words, fields_fit_lem}
 use Rattle.cards.specs.Text.{Four, lines_of}
 use Rattle.cards.specs.Heads.{and_then}
 use Rattle.cards.specs.Cards.{Card, line_text, head_text, lab_text, row_text, written, labs_fit, is32, WellFormed}
-use Rattle.cards.specs.Reading.{head_only, head_line, lines_in, first_failing, line_of_row, whole_in, extent_fits, card_in, read_card}
+use Rattle.cards.specs.Reading.{head_only, head_line, lines_in, whole_in, extent_fits, card_in, read_card}
 use Rattle.cards.specs.Laws.{ReadingLaws}
 use Rattle.cards.proofs.Outcomes.{never_ok, passed, then_steps}
 use Rattle.cards.proofs.RowLines.{Fitting}

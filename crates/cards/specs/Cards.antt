@@ -1,6 +1,6 @@
 -- A card, how it is written as bytes, and which cards are well formed.
 use Rattle.std.specs.Prelude.{◌≡◌, ℕ, ◌+◌, ◌≤◌, Bool, true, cond, ◌&&◌, List, [], ◌∷◌, ◌++◌, map, length, codes, decimal, nat_le, nat_lt}
-use Rattle.std.specs.List.{range_with_len, flat_map, AllByRecursion as All}
+use Rattle.std.specs.List.{range_with_len, flat_map, AllByRecursion}
 use Rattle.routine.specs.declared.rows.Operand.{Operand}
 use Rattle.routine.specs.declared.rows.Operand.TheVariants as operand
 use Rattle.routine.specs.declared.rows.Row.{Row}
@@ -114,6 +114,6 @@ is32 row.Halt = true
 pub record WellFormed (card : Card) : Type 0 where
   pub reader : card.head.reader ≤ label_limit card.head.kind
   pub labs : labs_fit card.head 0 card.labs ≡ true
-  pub constants : All (λ row. is32 row ≡ true) card.rows
+  pub constants : AllByRecursion (λ row. is32 row ≡ true) card.rows
   pub routine : within card.rows card.head.words card.head.words ≡ true
   pub short : length (written card) ≤ 32768

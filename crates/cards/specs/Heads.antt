@@ -1,5 +1,5 @@
 -- A card's head and its `lab` lines.
-use Rattle.std.specs.Prelude.{ℕ, ◌-◌, Bool, true, cond, List, Some, None, Ok, Err, codes, Option, Result}
+use Rattle.std.specs.Prelude.{ℕ, ◌-◌, cond, List, Some, None, Ok, Err, codes, Option, Result}
 use Rattle.std.specs.Str.{bytes_eq}
 use Rattle.cards.specs.declared.heads.LabelKind.{LabelKind}
 use Rattle.cards.specs.declared.heads.LabelKind.TheVariants.{Makers, Grades}

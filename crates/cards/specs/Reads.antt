@@ -1,5 +1,5 @@
 -- What reading a card does to the tables handed in, and what it answers.
-use Rattle.std.specs.Prelude.{◌≡◌, ℕ, Bool, true, false, cond, ◌&&◌, List, ◌++◌, length, drop, Ok, Err, Result, ◌≢◌, nat_le}
+use Rattle.std.specs.Prelude.{◌≡◌, ℕ, Bool, true, false, ◌&&◌, List, ◌++◌, length, drop, Ok, Err, Result, ◌≢◌, nat_le}
 use Rattle.refusals.specs.declared.cards.CardRefusal.{CardRefusal}
 use Rattle.refusals.specs.declared.cards.CardRefusal.TheVariants as refusal
 use Rattle.routine.specs.declared.rows.Row.{Row}

@@ -1,5 +1,5 @@
 -- A row by its word and its three other fields.
-use Rattle.std.specs.Prelude.{ℕ, ◌-◌, Bool, true, false, cond, List, Ok, Err, Result}
+use Rattle.std.specs.Prelude.{ℕ, ◌-◌, cond, Ok, Err, Result}
 use Rattle.refusals.specs.declared.cards.Cause.{Cause}
 use Rattle.routine.specs.declared.rows.Operation.{Operation}
 use Rattle.routine.specs.declared.rows.Row.{Row}

@@ -1,7 +1,7 @@
 -- A text as its lines, and a line as its fields.
-use Rattle.std.specs.Prelude.{◌≡◌, ℕ, cond, List, [], ◌∷◌, drop, Some, None, Option, ◌==◌, ◌≢◌}
+use Rattle.std.specs.Prelude.{ℕ, cond, List, [], ◌∷◌, drop, Some, None, Option, ◌==◌, ◌≢◌}
 use Rattle.cards.specs.declared.reader.Reader.{Reader}
-use Rattle.std.specs.List.{AllByRecursion as All}
+use Rattle.std.specs.List.{AllByRecursion}
 use Rattle.cards.specs.declared.lines.Fields.{Fields}
 
 -- a byte put in front of the first part
@@ -16,7 +16,7 @@ split b last (x ∷ xs) = cond (x == b) ([] ∷ split b last xs) (onto x (split 
 
 -- a text without the byte
 abbrev pub Lacks : ℕ → List ℕ → Type 0
-Lacks b text = All (λ x. x ≢ b) text
+Lacks b text = AllByRecursion (λ x. x ≢ b) text
 
 -- the lines of a text, each ended by byte 10
 abbrev pub lines_of : List ℕ → List (List ℕ)

@@ -1,4 +1,4 @@
-use Rattle.std.proofs.Common.{◌≡◌, ◌-◌, take, ap, subst, arith}
+use Rattle.std.proofs.Common.{◌≡◌, ◌-◌, take, subst, arith}
 use Rattle.std.proofs.ByRecursion.{All-more}
 use Rattle.std.proofs.lemmas.List.{take_all}
 use Rattle.cards.specs.Text.{Lacks}

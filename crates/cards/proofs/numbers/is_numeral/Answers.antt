@@ -27,4 +27,4 @@ pub returns : goal.returns
 returns c =
     let text = c.args.text.now in
     let all = sym c.loop-byte.invariant ∙ at_drop_all all_ascii_digits text c.loop-byte.byte-index c.loop-byte-test.false in
-    ap not c.is-empty.ensures ∙ numeral_from text all
+    ap not c.is_empty.ensures ∙ numeral_from text all

@@ -8,62 +8,62 @@ use Rattle.cards.specs.Drafts.{Steps, Gathers}
 use Rattle.cards.proofs.Stepping.{steps_by, took, failed}
 use Rattle.cards.proofs.Gathering.{gathers_by, read_extent, head_refused, lines_refused, whole-refused, whole-accepted}
 use Rattle.cards.proofs.reading.gather.Goals as goal
-use Rattle.cards.proofs.reading.gather.Goals.{In-Some, After-take-lines}
+use Rattle.cards.proofs.reading.gather.Goals.{In-Some, After-take_lines}
 
 -- the text's first line, and the lines that are left
-lines_are : (c : In-Some) → lines_of c.args.text.now ≡ c.in-Some.first.now ∷ lines_of (left_in c.next-line.new.self)
+lines_are : (c : In-Some) → lines_of c.args.text.now ≡ c.in-Some.first.now ∷ lines_of (left_in c.next_line.new.self)
 lines_are c = ap lines_of (sym c.new-reader.ensures.left) ∙ c.in-Some.ensures.0
 
 -- what was made of the lines that are left, which are counted from 2
-abbrev rest_read : After-take-lines → Result Card CardRefusal
-rest_read c = lines_in (head_only c.in-ok-head-line.field-0) 2 (lines_of (left_in c.next-line.new.self))
+abbrev rest_read : After-take_lines → Result Card CardRefusal
+rest_read c = lines_in (head_only c.in_ok-head_line.field-0) 2 (lines_of (left_in c.next_line.new.self))
 
-rest-steps : (c : After-take-lines) → Steps (rest_read c) c.take-lines.new.draft c.take-lines.result
+rest-steps : (c : After-take_lines) → Steps (rest_read c) c.take_lines.new.draft c.take_lines.result
 rest-steps c =
-    let reader = c.next-line.new.self in
-    let head = c.in-ok-head-line.field-0 in
+    let reader = c.next_line.new.self in
+    let head = c.in_ok-head_line.field-0 in
     let second : reader.line + 1 ≡ 2 = omega (arith, c.in-Some.ensures.1, c.new-reader.ensures.line) in
-    steps_by c.take-lines.new.draft c.take-lines.result (ap (λ k. lines_in (head_only head) k (lines_of (left_in reader))) (sym second))
-    (c.take-lines.ensures (head_only head) c.new-draft.ensures)
+    steps_by c.take_lines.new.draft c.take_lines.result (ap (λ k. lines_in (head_only head) k (lines_of (left_in reader))) (sym second))
+    (c.take_lines.ensures (head_only head) c.new-draft.ensures)
 
-pub returns-then-not-fits-extent : goal.returns-then-not-fits-extent
-returns-then-not-fits-extent c = gathers_by (Err _) (read_extent c.args.text.now (sym c.if-not-fits-extent.ensures)) refl
+pub returns-then-not-fits_extent : goal.returns-then-not-fits_extent
+returns-then-not-fits_extent c = gathers_by (Err _) (read_extent c.args.text.now (sym c.if-not-fits_extent.ensures)) refl
 
-pub returns-in-err-head-line : goal.returns-in-err-head-line
-returns-in-err-head-line c =
-    let told = err_from_is_err_and c.from-residual.result c.from-residual.ensures.1 in
-    gathers_by c.from-residual.result
-    (head_refused c.args.text.now c.in-Some.first.now _ (sym c.if-not-fits-extent.ensures) (lines_are (goal.at.returns-in-err-head-line c).In-Some)
-    _ (sym c.in-err-head-line.ensures.value))
+pub returns-in_err-head_line : goal.returns-in_err-head_line
+returns-in_err-head_line c =
+    let told = err_from_is_err_and c.from_residual.result c.from_residual.ensures.1 in
+    gathers_by c.from_residual.result
+    (head_refused c.args.text.now c.in-Some.first.now _ (sym c.if-not-fits_extent.ensures) (lines_are (goal.at.returns-in_err-head_line c).In-Some)
+    _ (sym c.in_err-head_line.ensures.value))
     (subst (Gathers (Err _)) (sym told.1) told.2)
 
-pub returns-in-err-take-lines : goal.returns-in-err-take-lines
-returns-in-err-take-lines c =
-    let at = goal.at.returns-in-err-take-lines c in
-    let told = err_from_is_err_and c.from-residual-in-err-take-lines.result c.from-residual-in-err-take-lines.ensures.1 in
-    gathers_by c.from-residual-in-err-take-lines.result
-    (lines_refused c.args.text.now c.in-Some.first.now _ (sym c.if-not-fits-extent.ensures) (lines_are at.In-Some)
-    c.in-ok-head-line.field-0 (sym c.in-ok-head-line.ensures.value) _
-    (failed (rest_read at.After-take-lines) c.take-lines.new.draft c.take-lines.result _ (rest-steps at.After-take-lines) c.in-err-take-lines.was))
+pub returns-in_err-take_lines : goal.returns-in_err-take_lines
+returns-in_err-take_lines c =
+    let at = goal.at.returns-in_err-take_lines c in
+    let told = err_from_is_err_and c.from_residual-in_err-take_lines.result c.from_residual-in_err-take_lines.ensures.1 in
+    gathers_by c.from_residual-in_err-take_lines.result
+    (lines_refused c.args.text.now c.in-Some.first.now _ (sym c.if-not-fits_extent.ensures) (lines_are at.In-Some)
+    c.in_ok-head_line.field-0 (sym c.in_ok-head_line.ensures.value) _
+    (failed (rest_read at.After-take_lines) c.take_lines.new.draft c.take_lines.result _ (rest-steps at.After-take_lines) c.in_err-take_lines.was))
     (subst (Gathers (Err _)) (sym told.1) told.2)
 
-pub returns-in-err-check-whole : goal.returns-in-err-check-whole
-returns-in-err-check-whole c =
-    let at = goal.at.returns-in-err-check-whole c in
-    let (card, read, drafts) = took (rest_read at.After-take-lines) c.take-lines.new.draft c.take-lines.result (rest-steps at.After-take-lines) c.in-ok-take-lines.was in
-    let told = err_from_is_err_and c.from-residual-in-err-check-whole.result c.from-residual-in-err-check-whole.ensures.1 in
-    gathers_by c.from-residual-in-err-check-whole.result
-    (whole-refused c.args.text.now c.in-Some.first.now _ (sym c.if-not-fits-extent.ensures) (lines_are at.In-Some)
-    c.in-ok-head-line.field-0 (sym c.in-ok-head-line.ensures.value) card read _ (sym (c.in-err-check-whole.ensures card drafts)))
+pub returns-in_err-check_whole : goal.returns-in_err-check_whole
+returns-in_err-check_whole c =
+    let at = goal.at.returns-in_err-check_whole c in
+    let (card, read, drafts) = took (rest_read at.After-take_lines) c.take_lines.new.draft c.take_lines.result (rest-steps at.After-take_lines) c.in_ok-take_lines.was in
+    let told = err_from_is_err_and c.from_residual-in_err-check_whole.result c.from_residual-in_err-check_whole.ensures.1 in
+    gathers_by c.from_residual-in_err-check_whole.result
+    (whole-refused c.args.text.now c.in-Some.first.now _ (sym c.if-not-fits_extent.ensures) (lines_are at.In-Some)
+    c.in_ok-head_line.field-0 (sym c.in_ok-head_line.ensures.value) card read _ (sym (c.in_err-check_whole.ensures card drafts)))
     (subst (Gathers (Err _)) (sym told.1) told.2)
 
 pub returns : goal.returns
 returns c =
     let at = goal.at.returns c in
-    let draft = c.take-lines.new.draft in
-    let (card, read, drafts) = took (rest_read at.After-take-lines) draft c.take-lines.result (rest-steps at.After-take-lines) c.in-ok-take-lines.was in
+    let draft = c.take_lines.new.draft in
+    let (card, read, drafts) = took (rest_read at.After-take_lines) draft c.take_lines.result (rest-steps at.After-take_lines) c.in_ok-take_lines.was in
     gathers_by (Ok draft)
-    (whole-accepted c.args.text.now c.in-Some.first.now _ (sym c.if-not-fits-extent.ensures) (lines_are at.In-Some)
-    c.in-ok-head-line.field-0 (sym c.in-ok-head-line.ensures.value) card read (omega (arith, drafts.count, draft.few))
-    (sym (c.in-ok-check-whole.ensures card drafts)))
+    (whole-accepted c.args.text.now c.in-Some.first.now _ (sym c.if-not-fits_extent.ensures) (lines_are at.In-Some)
+    c.in_ok-head_line.field-0 (sym c.in_ok-head_line.ensures.value) card read (omega (arith, drafts.count, draft.few))
+    (sym (c.in_ok-check_whole.ensures card drafts)))
     drafts

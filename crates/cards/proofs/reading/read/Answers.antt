@@ -7,13 +7,13 @@ use Rattle.cards.proofs.Gathering.{accepted_from}
 use Rattle.cards.proofs.WholeCards.{reading_laws}
 use Rattle.cards.proofs.reading.read.Goals as goal
 
-pub returns-in-err-draft : goal.returns-in-err-draft
-returns-in-err-draft c =
+pub returns-in_err-draft : goal.returns-in_err-draft
+returns-in_err-draft c =
     let text = c.args.card.now in
     let rows = c.args.rows.now in
     let labels = c.args.labels.now in
-    let ends : Ends text rows labels (read_card text) c.from-residual.result rows labels = search rules in
-    record { reads = reads reading_laws text rows rows labels labels c.from-residual.result ends; laws = reading_laws }
+    let ends : Ends text rows labels (read_card text) c.from_residual.result rows labels = search rules in
+    record { reads = reads reading_laws text rows rows labels labels c.from_residual.result ends; laws = reading_laws }
 
 pub returns-then-rows-draft : goal.returns-then-rows-draft
 returns-then-rows-draft c =
@@ -25,14 +25,14 @@ returns-then-rows-draft c =
 
 pub returns : goal.returns
 returns c =
-    let draft = c.in-ok-draft.draft in
+    let draft = c.in_ok-draft.draft in
     let text = c.args.card.now in
     let rows = c.args.rows.now in
     let labels = c.args.labels.now in
     record {
       reads = reads reading_laws text rows _ labels _ _
           (accepted_from text draft rows labels (omega arith) (omega arith) (omega arith)
-          c.copy-from-slice.new.self c.copy-from-slice-2.new.self c.copy-from-slice.ensures.after c.copy-from-slice-2.ensures.after _
-          c.in-ok-draft.ensures);
+          c.copy_from_slice.new.self c.copy_from_slice-2.new.self c.copy_from_slice.ensures.after c.copy_from_slice-2.ensures.after _
+          c.in_ok-draft.ensures);
       laws = reading_laws;
     }

@@ -1,4 +1,4 @@
-use Rattle.std.proofs.Common.{◌≡◌, ◌+◌, Ok, Err, sym, refl, ap, ◌∙◌}
+use Rattle.std.proofs.Common.{◌+◌, Ok, Err, sym, refl, ap, ◌∙◌}
 use Rattle.std.proofs.lemmas.Result.{err_from_is_err_and}
 use Rattle.cards.specs.Text.{split, lines_of, left_in}
 use Rattle.cards.specs.Reading.{line_in, lines_in}
@@ -11,26 +11,26 @@ loop-line-init c = λ card drafts. (card, drafts, refl)
 pub loop-line-preserved : goal.loop-line-preserved
 loop-line-preserved c = λ card drafts.
     let (so_far, drafted, left) = c.loop-line.invariant card drafts in
-    let reader = c.next-line.new.self in
+    let reader = c.next_line.new.self in
     let line = c.in-Some.line.now in
     let read = c.in-Some.ensures in
-    let (next, is, drafts-next) = took (line_in so_far reader.line line) c.take-line.new.self c.take-line.result
-    (c.take-line.ensures so_far drafted) c.in-ok-take-line.was in (
+    let (next, is, drafts-next) = took (line_in so_far reader.line line) c.take_line.new.self c.take_line.result
+    (c.take_line.ensures so_far drafted) c.in_ok-take_line.was in (
       next,
       drafts-next,
       sym (lines_next so_far c.loop-line.reader.line reader.line line (lines_of (left_in c.loop-line.reader)) (lines_of (left_in reader)) read.0 read.1 next is) ∙ left,
     )
 
-pub returns-in-err-take-line : goal.returns-in-err-take-line
-returns-in-err-take-line c = λ card drafts.
+pub returns-in_err-take_line : goal.returns-in_err-take_line
+returns-in_err-take_line c = λ card drafts.
     let (so_far, drafted, left) = c.loop-line.invariant card drafts in
-    let reader = c.next-line.new.self in
+    let reader = c.next_line.new.self in
     let line = c.in-Some.line.now in
     let read = c.in-Some.ensures in
-    let told = err_from_is_err_and c.from-residual.result c.from-residual.ensures.1 in
-    let refused = failed (line_in so_far reader.line line) c.take-line.new.self c.take-line.result _
-    (c.take-line.ensures so_far drafted) c.in-err-take-line.was in
-    steps_by c.take-line.new.self c.from-residual.result
+    let told = err_from_is_err_and c.from_residual.result c.from_residual.ensures.1 in
+    let refused = failed (line_in so_far reader.line line) c.take_line.new.self c.take_line.result _
+    (c.take_line.ensures so_far drafted) c.in_err-take_line.was in
+    steps_by c.take_line.new.self c.from_residual.result
     (sym left ∙ lines_stop so_far c.loop-line.reader.line reader.line line (lines_of (left_in c.loop-line.reader)) (lines_of (left_in reader)) read.0 read.1 _ refused)
     (told.1 ∙ ap Err told.2)
 
@@ -39,4 +39,4 @@ unfolding lines_in split
 returns c = λ card drafts.
     let (so_far, drafted, left) = c.loop-line.invariant card drafts in
     steps_by c.loop-line.draft (Ok tt)
-    (sym left ∙ ap (λ text. lines_in so_far (c.loop-line.reader.line + 1) (lines_of text)) c.in-default.ensures.0) (refl, drafted)
+    (sym left ∙ ap (λ text. lines_in so_far (c.loop-line.reader.line + 1) (lines_of text)) c.in_default.ensures.0) (refl, drafted)

@@ -5,17 +5,17 @@ use Rattle.cards.specs.Words.{named, all_words}
 use Rattle.cards.proofs.Names.{named_next}
 use Rattle.cards.proofs.words.word_named.Goals as goal
 
-pub returns-then-is-same : goal.returns-then-is-same
-returns-then-is-same c =
-    sym (named_next c.args.name.now all_words c.loop-word.word-index _ c.name.result.now c.is-same.result
-    c.loop-word-test.true c.name.ensures c.is-same.ensures c.loop-word.invariant
-    ∙ cond-true c.is-same.result _ _ c.if-is-same.true)
+pub returns-then-is_same : goal.returns-then-is_same
+returns-then-is_same c =
+    sym (named_next c.args.name.now all_words c.loop-word.word-index _ c.name.result.now c.is_same.result
+    c.loop-word-test.true c.name.ensures c.is_same.ensures c.loop-word.invariant
+    ∙ cond-true c.is_same.result _ _ c.if-is_same.true)
 
 pub loop-word-preserved : goal.loop-word-preserved
 loop-word-preserved c =
-    sym (named_next c.args.name.now all_words c.loop-word.word-index _ c.name.result.now c.is-same.result
-    c.loop-word-test.true c.name.ensures c.is-same.ensures c.loop-word.invariant
-    ∙ cond-false c.is-same.result _ _ c.if-is-same.false)
+    sym (named_next c.args.name.now all_words c.loop-word.word-index _ c.name.result.now c.is_same.result
+    c.loop-word-test.true c.name.ensures c.is_same.ensures c.loop-word.invariant
+    ∙ cond-false c.is_same.result _ _ c.if-is_same.false)
 
 pub returns : goal.returns
 unfolding named

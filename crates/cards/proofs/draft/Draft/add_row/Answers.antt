@@ -4,15 +4,15 @@ use Rattle.routine.specs.Limits.{fields_fit, every_field_fits}
 use Rattle.cards.proofs.Painting.{every_push}
 use Rattle.cards.proofs.draft.Draft.add_row.Goals as goal
 
-pub invariant-of-self : goal.invariant-of-self
-invariant-of-self c =
+pub invariant_of-self : goal.invariant_of-self
+invariant_of-self c =
     let self = c.args.self.now in
     let row = c.args.row in
     let inside : self.count < length self.rows = omega arith in
     let fits : every_field_fits (take (self.count + 1) (set self.rows self.count row)) self.head.words ≡ true =
     subst (λ rows. every_field_fits rows self.head.words ≡ true) (sym (take_more_set self.rows self.count row inside))
     (every_push (λ _ r. fields_fit self.head.words r) (take self.count self.rows) row self.fits c.requires.1) in
-    (self.some, (self.small, (omega arith, (fits, (self.counted, (self.inside, tt))))))
+    record { some = self.some; small = self.small; few = omega arith; fits = fits; counted = self.counted; inside = self.inside }
 
 pub returns : goal.returns
 returns c = λ card drafts.

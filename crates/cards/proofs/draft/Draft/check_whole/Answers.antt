@@ -10,8 +10,8 @@ use Rattle.cards.proofs.draft.Draft.check_whole.Goals as goal
 part-long : {X : Type 0} (n : ℕ) (xs : List X) → n ≤ length xs → length (take (n - 0) xs) ≡ n
 part-long n xs inside = ap length (part n xs) ∙ length-take-le n xs inside
 
-pub on-card-requires : goal.on-card-requires
-on-card-requires c =
+pub on_card-requires : goal.on_card-requires
+on_card-requires c =
     let self = c.args.self.now in
     let words = self.head.words in
     subst₂ (λ rows labels. DeclinedBy rows words labels c.in-Err.refusal) (part self.count self.rows) (part-long words self.labels (omega (arith, self.small)))

@@ -3,9 +3,9 @@ use Rattle.std.proofs.lemmas.List.{get_or-replicate}
 use Rattle.routine.specs.Limits.{every}
 use Rattle.cards.proofs.draft.Draft.new.Goals as goal
 
-pub invariant-of-result : goal.invariant-of-result
+pub invariant_of-result : goal.invariant_of-result
 unfolding every
-invariant-of-result c = (c.requires.0, (c.requires.1, (omega arith, (refl, (omega arith, (omega arith, tt))))))
+invariant_of-result c = record { some = c.requires.0; small = c.requires.1; few = omega arith; fits = refl; counted = omega arith; inside = omega arith }
 
 pub returns : goal.returns
 returns c = record {

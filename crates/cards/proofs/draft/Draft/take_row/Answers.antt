@@ -27,10 +27,10 @@ by-fields words Halt name four = refl
 fits : (words : ℕ) (word : Word) (four : Four) (row : Row) → 1 ≤ words → words ≤ 4096 → row_in words word four ≡ Ok row → fields_fit words row ≡ true
 fits words word four row some small is = (row_sound words some small word (texts (name_of word) four.second four.third four.fourth) row refl (by-fields words word (name_of word) four ∙ is)).1.fields
 
-pub add-row-requires : goal.add-row-requires
-add-row-requires c =
+pub add_row-requires : goal.add_row-requires
+add_row-requires c =
     let self = c.args.self.now in
-    (c.if-self-ge-MAX-ROWS.false, fits self.head.words c.args.word (four_texts c.args.fields.now) c.in-Ok.row self.some self.small (sym c.in-Ok.ensures))
+    (c.if-self-ge-MAX_ROWS.false, fits self.head.words c.args.word (four_texts c.args.fields.now) c.in-Ok.row self.some self.small (sym c.in-Ok.ensures))
 
 pub returns-in-Ok : goal.returns-in-Ok
 returns-in-Ok c = λ card drafts.
@@ -38,6 +38,6 @@ returns-in-Ok c = λ card drafts.
     let row = c.in-Ok.row in
     let is : row_in card.head.words c.args.word four ≡ Ok row =
     ap (λ head. row_in head.words c.args.word four) (sym drafts.head) ∙ sym c.in-Ok.ensures in
-    steps_by c.add-row.new.self (Ok tt)
+    steps_by c.add_row.new.self (Ok tt)
     (row_taken card c.args.number c.args.word four row (omega (arith, drafts.count)) is)
-    (refl, c.add-row.ensures card drafts)
+    (refl, c.add_row.ensures card drafts)
