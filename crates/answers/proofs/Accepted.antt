@@ -1,5 +1,5 @@
 -- What is known of the tables once a card was read into them.
-use Rattle.std.proofs.Common.{◌≡◌, ℕ, ◌≤◌, true, List, ◌++◌, length, take, drop, Ok, Err, Result, sym, ap, ◌∙◌, subst, arith}
+use Rattle.std.proofs.Common.{◌≡◌, ℕ, ◌≤◌, true, List, length, take, drop, Ok, Err, Result, sym, ap, ◌∙◌, subst, arith}
 use Rattle.std.proofs.lemmas.List.FromFn.{length-map-range_with_len}
 use Rattle.std.proofs.lemmas.List.{length-append, take_at}
 use Rattle.std.proofs.lemmas.Bool.{and_from, le-leb}
@@ -9,7 +9,7 @@ use Rattle.routine.specs.Limits.{within}
 use Rattle.routine.proofs.Limits.{few_rows, few_words}
 use Rattle.cards.specs.declared.accepted.Accepted.{Accepted}
 use Rattle.cards.specs.Cards.{Card, WellFormed, written, label_at, labels_of}
-use Rattle.cards.specs.Reads.{overlaid, accepted_of, has_room, Accepts, Reads}
+use Rattle.cards.specs.Reads.{overlaid, accepted_of, Accepts, Reads}
 use Rattle.report.specs.Lines.{declined_line}
 use Rattle.answers.specs.Answers.{GivesLine, Answers}
 

@@ -1,4 +1,4 @@
-use Rattle.std.proofs.Common.{◌≡◌, ◌≤◌, set, refl, ap, ◌∙◌, arith}
+use Rattle.std.proofs.Common.{◌≡◌, set, refl, ap, ◌∙◌, arith}
 use Rattle.labels.specs.Makers.{of_members}
 use Rattle.cases.proofs.Filling.{filled, fill_one}
 use Rattle.cases.proofs.bench_labels.Goals as goal

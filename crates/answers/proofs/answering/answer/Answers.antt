@@ -5,17 +5,17 @@ use Rattle.report.specs.Parts.{line_bytes}
 use Rattle.answers.proofs.Accepted.{card_rows, card_labels, card_fits, answers_judged, answers_declined}
 use Rattle.answers.proofs.answering.answer.Goals as goal
 
-pub answer-accepted-requires : goal.answer-accepted-requires
-answer-accepted-requires c =
+pub answer_accepted-requires : goal.answer_accepted-requires
+answer_accepted-requires c =
     let (card, well, same, accepts) = c.read.ensures.reads.only c.in-Ok.accepted c.in-Ok.is in
     ((card_rows c.in-Ok.is card accepts).1, ((card_labels c.in-Ok.is card accepts).1, card_fits c.in-Ok.is card accepts well))
 
 pub returns-in-Ok : goal.returns-in-Ok
 returns-in-Ok c =
     answers_judged c.read.ensures.reads (omega (arith, length-replicate 256 Halt)) (omega (arith, length-replicate {A = ℕ} 4096 0))
-    c.in-Ok.accepted c.in-Ok.is (line_bytes c.answer-accepted.result) c.answer-accepted.ensures
+    c.in-Ok.accepted c.in-Ok.is (line_bytes c.answer_accepted.result) c.answer_accepted.ensures
 
 pub returns-in-Err : goal.returns-in-Err
 returns-in-Err c =
     answers_declined c.read.ensures.reads (omega (arith, length-replicate 256 Halt)) (omega (arith, length-replicate {A = ℕ} 4096 0))
-    c.in-Err.refusal c.in-Err.is (line_bytes c.declined-line.result) c.declined-line.ensures
+    c.in-Err.refusal c.in-Err.is (line_bytes c.declined_line.result) c.declined_line.ensures

@@ -37,15 +37,15 @@ as-named line a kind rows numbers is gives =
     (subst (λ labels. GivesLine kind labels (take a.rows rows) a.reader (line_bytes line)) (part a.words numbers)
     (subst (λ rows. GivesLine kind (take (a.words - 0) numbers) rows a.reader (line_bytes line)) (part a.rows rows) gives))
 
-pub answer-as-requires : goal.answer-as-requires
-answer-as-requires c = (lit< tt, rooms c.args.accepted c.args.rows.now c.args.numbers.now c.requires.1.0 c.requires.1.1)
+pub answer_as-requires : goal.answer_as-requires
+answer_as-requires c = (lit< tt, rooms c.args.accepted c.args.rows.now c.args.numbers.now c.requires.1.0 c.requires.1.1)
 
-pub answer-as-requires-in-Grades : goal.answer-as-requires-in-Grades
-answer-as-requires-in-Grades c = (lit< tt, rooms c.args.accepted c.args.rows.now c.args.numbers.now c.requires.1.0 c.requires.1.1)
+pub answer_as-requires-in-Grades : goal.answer_as-requires-in-Grades
+answer_as-requires-in-Grades c = (lit< tt, rooms c.args.accepted c.args.rows.now c.args.numbers.now c.requires.1.0 c.requires.1.1)
 
 pub returns-in-Makers : goal.returns-in-Makers
-returns-in-Makers c = as-named c.answer-as.result c.args.accepted _ c.args.rows.now c.args.numbers.now c.in-Makers.is c.answer-as.ensures
+returns-in-Makers c = as-named c.answer_as.result c.args.accepted _ c.args.rows.now c.args.numbers.now c.in-Makers.is c.answer_as.ensures
 
 pub returns-in-Grades : goal.returns-in-Grades
 returns-in-Grades c =
-    as-named c.answer-as-in-Grades.result c.args.accepted _ c.args.rows.now c.args.numbers.now c.in-Grades.is c.answer-as-in-Grades.ensures
+    as-named c.answer_as-in-Grades.result c.args.accepted _ c.args.rows.now c.args.numbers.now c.in-Grades.is c.answer_as-in-Grades.ensures

@@ -14,6 +14,6 @@ pub returns : goal.returns
 returns g c =
     let numbers = c.args.numbers.now in
     let numbered = g.L.Numbered.numbered in
-    subst₂ (λ labels reader. GivesLineAs g.L.Label.kind labels c.args.rows.now reader (line_bytes c.judged-line.result))
-    (part-written (length numbers) c.fill-labels.new.labels c.args.labels.now (map numbered numbers) c.fill-labels.ensures (length-map numbers numbered))
-    c.from-number.ensures c.judged-line.ensures
+    subst₂ (λ labels reader. GivesLineAs g.L.Label.kind labels c.args.rows.now reader (line_bytes c.judged_line.result))
+    (part-written (length numbers) c.fill_labels.new.labels c.args.labels.now (map numbered numbers) c.fill_labels.ensures (length-map numbers numbered))
+    c.from_number.ensures c.judged_line.ensures

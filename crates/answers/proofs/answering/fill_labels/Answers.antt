@@ -4,8 +4,8 @@ use Rattle.answers.proofs.answering.fill_labels.Goals as goal
 
 pub loop-i-preserved : goal.loop-i-preserved
 loop-i-preserved g c =
-    take_more_set c.loop-i.labels c.loop-i.i c.from-number.result (omega arith)
-    ∙ ap₂ (λ front label. front ++ label ∷ []) c.loop-i.invariant c.from-number.ensures
+    take_more_set c.loop-i.labels c.loop-i.i c.from_number.result (omega arith)
+    ∙ ap₂ (λ front label. front ++ label ∷ []) c.loop-i.invariant c.from_number.ensures
     ∙ sym (map_more g.L.Numbered.numbered c.args.numbers.now c.loop-i.i 0 c.loop-i-test.true)
 
 pub returns : goal.returns
