@@ -1,11 +1,11 @@
 -- Where two levels arrive after a row: at a row that is reached, with registers and stores as the relation asks.
-use Rattle.std.proofs.Common.{◌≡◌, ℕ, ◌+◌, ◌*◌, ◌<◌, ◌≤◌, Bool, true, false, cond, not, ◌&&◌, ◌≢◌, List, [], ◌∷◌, ◌++◌, length, get_or, set, sym, refl, ap, ◌∙◌, subst, ⊎_elim, arith, length-set}
-use Rattle.std.proofs.lemmas.List.{get_or-set_same, get_or-set_other, set_past}
-use Rattle.std.proofs.lemmas.Bool.{cases_eq, cases_lt, and_parts, ltb-true, eqb-false, not-true, false≢true, true≢false}
+use Rattle.std.proofs.Common.{◌≡◌, ℕ, ◌+◌, ◌*◌, ◌<◌, ◌≤◌, Bool, true, false, ◌≢◌, List, [], ◌∷◌, ◌++◌, length, get_or, set, sym, refl, ◌∙◌, subst, ⊎_elim, arith, length-set}
+use Rattle.std.proofs.lemmas.List.{get_or-set_same, get_or-set_other}
+use Rattle.std.proofs.lemmas.Bool.{cases_eq, and_parts, eqb-false, not-true, false≢true, true≢false}
 use Rattle.labels.specs.Kind.{Kind, Lawful}
 use Rattle.routine.specs.Effects.{operand, outcome}
 use Rattle.routine.specs.Limits.{fields_fit, target_fits}
-use Rattle.routine.proofs.Limits.{fields_fit_lem, target_fits_lem, few_words}
+use Rattle.routine.proofs.Limits.{few_words}
 use Rattle.routine.specs.declared.rows.Operand.{Operand}
 use Rattle.routine.specs.declared.rows.Test.{Test}
 use Rattle.routine.specs.declared.rows.Row.{Row}
@@ -21,9 +21,9 @@ use Rattle.facts.specs.Tables.{slot, fact_at, hands_fact, admits, Closed}
 use Rattle.judging.specs.Steps.{Fitting, Valid}
 use Rattle.judging.proofs.Fits.{hands_fit}
 use Rattle.promise.specs.Moves.{Write, move, side, laid}
-use Rattle.promise.specs.Guessing.{Level, level, seen, barred}
+use Rattle.promise.specs.Guessing.{Level, level, barred}
 use Rattle.promise.specs.Promise.{Agree}
-use Rattle.promise.specs.Relation.{Pairs, OneStore, Stores, Twins, Stacks}
+use Rattle.promise.specs.Relation.{Pairs, OneStore, Stores, Twins}
 use Rattle.promise.proofs.Pairs.{pairs_higher}
 use Rattle.promise.proofs.Rows.{after_pairs, target_pairs, next_pairs}
 

@@ -1,10 +1,8 @@
 -- The relation holds at the start and is kept by every step; so runs are alike.
-use Rattle.std.proofs.Common.{◌≡◌, ℕ, zero, suc, ◌+◌, ◌-◌, ◌^◌, ◌<◌, ◌≤◌, Bool, true, false, cond, List, [], ◌∷◌, ◌++◌, length, get_or, drop, replicate, Some, None, sym, refl, ap, ◌∙◌, subst, ap₂, arith}
+use Rattle.std.proofs.Common.{◌≡◌, ℕ, zero, suc, ◌-◌, ◌^◌, ◌<◌, ◌≤◌, Bool, false, List, [], ◌∷◌, ◌++◌, length, get_or, drop, replicate, sym, refl, ap, ◌∙◌, subst, ap₂, arith}
 use Rattle.std.proofs.lemmas.List.{append_cancel_left, append_assoc, append-nil}
 use Rattle.std.proofs.lemmas.Nat.{pow_pos}
-use Rattle.std.proofs.lemmas.Bool.{cond-false}
 use Rattle.labels.specs.Kind.{Kind, Lawful}
-use Rattle.routine.specs.Limits.{fields_fit}
 use Rattle.routine.proofs.Limits.{fields_fit_lem, few_words, some_rows}
 use Rattle.routine.specs.declared.rows.Row.{Row}
 use Rattle.routine.specs.declared.rows.Row.TheVariants as row
@@ -12,21 +10,18 @@ use Rattle.facts.specs.declared.types.Mode.{Mode}
 use Rattle.facts.specs.declared.types.Mode.TheVariants.{Settled, Guessed}
 use Rattle.facts.specs.declared.types.Reason.{Reason}
 use Rattle.facts.specs.declared.types.Reason.TheVariants as reason
-use Rattle.facts.specs.declared.types.Sought.{Sought}
 use Rattle.facts.specs.declared.types.Sought.TheVariants.{AnyLeak, SpillOrGuessed}
-use Rattle.facts.specs.declared.types.Known.{Known}
 use Rattle.facts.specs.declared.types.Fact.{Fact}
-use Rattle.facts.specs.declared.types.Fact.TheVariants.{Reached}
 use Rattle.facts.specs.Order as order
 use Rattle.facts.specs.Order.{knows, known_at, below_all}
-use Rattle.facts.specs.Leaks.{counts, leaks}
+use Rattle.facts.specs.Leaks.{leaks}
 use Rattle.facts.specs.Tables.{fact_at, leaks_fact, leaks_at, Closed}
 use Rattle.judging.specs.Verdicts.{NoLeak}
 use Rattle.judging.specs.Steps.{Valid}
 use Rattle.promise.specs.declared.events.Event.{Event}
-use Rattle.promise.specs.Moves.{Write, move, laid}
+use Rattle.promise.specs.Moves.{move, laid}
 use Rattle.promise.specs.Plain.{Plain, plain_start, plain_event, plain_next, plain_after, plain_run}
-use Rattle.promise.specs.Guessing.{Build, Level, State, level, levels, seen, bottom, height, words_at, step, answers, after, start}
+use Rattle.promise.specs.Guessing.{Build, Level, State, levels, seen, bottom, height, words_at, step, answers, after, start}
 use Rattle.promise.specs.Invisible.{level_zero}
 use Rattle.promise.specs.Promise.{Agree, Alike, PlainAlike}
 use Rattle.promise.specs.Relation.{Pairs, Stores, Twins, Stacks, Related}

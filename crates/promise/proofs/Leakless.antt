@@ -1,6 +1,6 @@
 -- Where nothing leaks, a row shows and stores alike.
-use Rattle.std.proofs.Common.{◌≡◌, ℕ, zero, suc, ◌+◌, ◌<◌, ◌≤◌, Bool, true, false, cond, not, ◌&&◌, ◌||◌, List, [], ◌∷◌, length, get_or, sym, refl, ap, ◌∙◌, subst, ap₂, ⊎_elim, arith}
-use Rattle.std.proofs.lemmas.Bool.{and_parts, or_parts, and_cases, both_ways, not-false, ltb-true, and_from, cases_Bool}
+use Rattle.std.proofs.Common.{◌≡◌, ℕ, zero, suc, ◌+◌, ◌<◌, ◌≤◌, true, false, not, List, [], ◌∷◌, length, get_or, refl, ap, subst, ap₂, ⊎_elim, arith}
+use Rattle.std.proofs.lemmas.Bool.{and_parts, or_parts, both_ways, not-false, ltb-true, and_from, cases_Bool}
 use Rattle.labels.specs.Kind.{Kind, Lawful}
 use Rattle.routine.specs.Address.{address, in_window}
 use Rattle.routine.proofs.Address.{window_reached}

@@ -1,7 +1,7 @@
 -- What each row does to two machines' registers, under what is known before and after it.
-use Rattle.std.proofs.Common.{◌≡◌, ℕ, zero, suc, ◌+◌, ◌-◌, ◌%◌, ◌^◌, ◌<◌, ◌≤◌, min, Bool, true, false, cond, not, ◌&&◌, ◌||◌, eqb, ltb, ◌≢◌, List, [], ◌∷◌, length, get_or, set, sym, refl, ap, ◌∙◌, subst, ap₂, ⊎_elim, arith}
-use Rattle.std.proofs.lemmas.List.{get_or_past, get_or_default}
-use Rattle.std.proofs.lemmas.Bool.{cases_lt, and_parts, cond-true, leb-true, ltb-true, ltb-false, eqb-true}
+use Rattle.std.proofs.Common.{◌≡◌, ℕ, zero, suc, ◌+◌, ◌-◌, ◌%◌, ◌^◌, ◌<◌, ◌≤◌, Bool, true, false, cond, List, [], ◌∷◌, length, get_or, sym, refl, ap, ◌∙◌, subst, ap₂, ⊎_elim, arith}
+use Rattle.std.proofs.lemmas.List.{get_or_past}
+use Rattle.std.proofs.lemmas.Bool.{cases_lt, and_parts, leb-true, ltb-true, ltb-false, eqb-true}
 use Rattle.labels.specs.Kind.{Kind, Lawful}
 use Rattle.routine.specs.Address.{address, in_window}
 use Rattle.routine.proofs.Address.{window_reached}
@@ -15,7 +15,7 @@ use Rattle.routine.specs.declared.rows.Test.TheVariants as test
 use Rattle.routine.specs.declared.rows.Row.{Row}
 use Rattle.routine.specs.declared.rows.Row.TheVariants as row
 use Rattle.facts.specs.declared.types.Known.{Known}
-use Rattle.facts.specs.Order.{knows, known_at}
+use Rattle.facts.specs.Order.{known_at}
 use Rattle.facts.specs.Rules.{bits_of, of_operand, join_from, join_window, result_of, after, at_target, at_next}
 use Rattle.promise.specs.Moves.{move}
 use Rattle.promise.specs.Promise.{Agree}

@@ -1,5 +1,5 @@
 -- Every step keeps the relation, and both machines answer alike, where what the step shows and stores is alike.
-use Rattle.std.proofs.Common.{◌≡◌, ℕ, ◌+◌, ◌<◌, ◌≤◌, Bool, true, false, cond, not, ◌&&◌, ◌||◌, leb, List, [], ◌∷◌, ◌++◌, length, get_or, Some, None, sym, refl, ap, ◌∙◌, subst, ap₂, arith}
+use Rattle.std.proofs.Common.{◌≡◌, ℕ, ◌+◌, Bool, true, false, cond, ◌||◌, leb, List, [], ◌∷◌, ◌++◌, length, get_or, sym, refl, ap, ◌∙◌, subst, ap₂, arith}
 use Rattle.std.proofs.lemmas.Bool.{false≢true, true≢false}
 use Rattle.labels.specs.Kind.{Kind, Lawful}
 use Rattle.routine.specs.Effects.{operand, outcome}
@@ -15,12 +15,11 @@ use Rattle.facts.specs.declared.types.Fact.{Fact}
 use Rattle.facts.specs.Rules.{hands}
 use Rattle.facts.specs.Tables.{Closed}
 use Rattle.judging.specs.Steps.{Valid}
-use Rattle.promise.specs.declared.events.Letter.{Letter}
 use Rattle.promise.specs.declared.events.Letter.TheVariants as letter
-use Rattle.promise.specs.Moves.{Write, Move, move, side, laid, halts}
-use Rattle.promise.specs.Guessing.{Build, Level, State, Answer, level, levels, seen, pending, bottom, height, barred, carried, misled, branched, obeyed, flushed, asked, step, shows, same}
+use Rattle.promise.specs.Moves.{Write, move, side, laid, halts}
+use Rattle.promise.specs.Guessing.{Build, Level, State, Answer, level, levels, seen, pending, bottom, barred, carried, misled, branched, obeyed, asked, step, shows, same}
 use Rattle.promise.specs.Promise.{Agree}
-use Rattle.promise.specs.Relation.{Pairs, Stores, Twins, Stacks, Related}
+use Rattle.promise.specs.Relation.{Stores, Twins, Stacks, Related}
 use Rattle.promise.proofs.Arrivals.{laid_length, laid_agree, stores_both, stores_count, outcomes, hands_go, AllGo, either_side, settled-branch, settled-moved, guessed-moved}
 
 abbrev mk : Level → List Level → Bool → List ℕ → List ℕ → List ℕ → State

@@ -1,8 +1,7 @@
 -- The plain machine: no guessing.
-use Rattle.std.specs.Prelude.{ℕ, zero, suc, Bool, true, false, cond, List, [], ◌∷◌, ◌++◌, replicate, slice_index_or}
+use Rattle.std.specs.Prelude.{ℕ, zero, suc, Bool, false, cond, List, [], ◌∷◌, ◌++◌, replicate, slice_index_or}
 use Rattle.routine.specs.declared.rows.Row.{Row}
 use Rattle.routine.specs.declared.rows.Row.TheVariants as row
-use Rattle.promise.specs.declared.events.Letter.{Letter}
 use Rattle.promise.specs.declared.events.Event.{Event}
 use Rattle.promise.specs.Moves.{Move, move, laid, halts}
 

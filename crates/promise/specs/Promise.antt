@@ -1,5 +1,5 @@
 -- What a verdict promises of two machines.
-use Rattle.std.specs.Prelude.{◌≡◌, ℕ, ◌<◌, ◌≤◌, Bool, true, false, List, length, slice_index, slice_index_or}
+use Rattle.std.specs.Prelude.{◌≡◌, ℕ, ◌<◌, ◌≤◌, true, List, length, slice_index, slice_index_or}
 use Rattle.labels.specs.Kind.{Kind}
 use Rattle.routine.specs.Limits.{within}
 use Rattle.routine.specs.declared.rows.Row.{Row}

@@ -1,5 +1,5 @@
 -- The relation between two machines that every step keeps.
-use Rattle.std.specs.Prelude.{◌≡◌, ℕ, ◌^◌, ◌<◌, ◌≤◌, Bool, true, false, List, [], ◌∷◌, length, slice_index, slice_index_or}
+use Rattle.std.specs.Prelude.{◌≡◌, ℕ, ◌^◌, ◌<◌, ◌≤◌, true, List, [], ◌∷◌, length, slice_index, slice_index_or}
 use Rattle.labels.specs.Kind.{Kind}
 use Rattle.routine.specs.declared.rows.Row.{Row}
 use Rattle.facts.specs.declared.types.Mode.{Mode}
