@@ -49,7 +49,7 @@ def defined():
             if re.match(r" *(--|use |module |mod |pub mod |ruleset )", line):
                 continue
             found = DEFINED.match(line)
-            if found and len(found.group(1)) in (0, 2, 4):
+            if found and len(found.group(1)) % 2 == 0:
                 names.add(found.group(2))
     return names
 

@@ -11,7 +11,7 @@ use Rattle.cards.specs.Text.{Lacks}
 use Rattle.cards.specs.Numbers.{onward, value_of, is_numeral, leads_with_zero, number_in, plain_in}
 use Rattle.cards.proofs.Outcomes.{same_ok, never_some, passed, passed_not}
 
--- `value_of` and `allDigits` are words for numbers and their digits
+-- `value_of` and `all_ascii_digits` are words for numbers and their digits
 own : IsNumeralModel (λ ds. all_ascii_digits ds ≡ true) (onward 0)
 own = numerals_by_fold _ (search rules) onward (search rules)
 

@@ -89,18 +89,18 @@ module _ (card : Card) where
     whole_target i first = whole_some ∙ ap (on_failing card) (first_failing_lem _ card.rows i first)
 
     module _ (targets : every_target_fits card.rows ≡ true) where
-      whole-last : whole_in card ≡ on_failing card None
-      whole-last = whole_some ∙ ap (on_failing card) (none_failing _ 0 card.rows targets)
+      whole_last : whole_in card ≡ on_failing card None
+      whole_last = whole_some ∙ ap (on_failing card) (none_failing _ 0 card.rows targets)
 
-      pub whole-ending : last_ends card.rows ≡ false → whole_in card ≡ Err (refusal.Ending (line_of_row card (length card.rows - 1)))
-      whole-ending onward = whole-last ∙ cond-false (last_ends card.rows) _ _ onward
+      pub whole_ending : last_ends card.rows ≡ false → whole_in card ≡ Err (refusal.Ending (line_of_row card (length card.rows - 1)))
+      whole_ending onward = whole_last ∙ cond-false (last_ends card.rows) _ _ onward
 
-      whole-ends : last_ends card.rows ≡ true → whole_in card ≡ Ok card
-      whole-ends ends = whole-last ∙ cond-true (last_ends card.rows) _ _ ends
+      whole_ends : last_ends card.rows ≡ true → whole_in card ≡ Ok card
+      whole_ends ends = whole_last ∙ cond-true (last_ends card.rows) _ _ ends
 
 -- the check of the whole accepts just what is whole, and changes nothing
 pub whole_ok : (card : Card) → Whole card.rows → whole_in card ≡ Ok card
-whole_ok card whole = whole-ends card whole.count whole.targets whole.last
+whole_ok card whole = whole_ends card whole.count whole.targets whole.last
 
 pub whole_sound : (card read : Card) → length card.rows ≤ 256 → whole_in card ≡ Ok read → (card ≡ read) × Whole card.rows
 whole_sound card read few is =

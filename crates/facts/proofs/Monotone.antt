@@ -127,23 +127,23 @@ module _ {L : Type 0} (K : Kind L) (laws : Lawful K) where
       guessed target i low high rest h =
           more target Guessed ks gs (hand (i + 1) Guessed ks ∷ low) (hand (i + 1) Guessed gs ∷ high) lower (more (i + 1) Guessed ks gs low high lower rest) h
 
-      pub hands-admitted : (labels : List L) (x : Row) (i : ℕ) (m : Mode)
+      pub hands_admitted : (labels : List L) (x : Row) (i : ℕ) (m : Mode)
           → admits K table (hands K labels x i m gs) ≡ true → admits K table (hands K labels x i m ks) ≡ true
-      hands-admitted labels (row.Set to value) i m h = plain labels (row.Set to value) i m h
-      hands-admitted labels (row.Copy to from) i m h = plain labels (row.Copy to from) i m h
-      hands-admitted labels (row.Compute o to a b) i m h = plain labels (row.Compute o to a b) i m h
-      hands-admitted labels (row.Load to k a) i m h = plain labels (row.Load to k a) i m h
-      hands-admitted labels (row.Store v k a) i m h = plain labels (row.Store v k a) i m h
-      hands-admitted labels (row.Branch t a b target) i Settled h =
+      hands_admitted labels (row.Set to value) i m h = plain labels (row.Set to value) i m h
+      hands_admitted labels (row.Copy to from) i m h = plain labels (row.Copy to from) i m h
+      hands_admitted labels (row.Compute o to a b) i m h = plain labels (row.Compute o to a b) i m h
+      hands_admitted labels (row.Load to k a) i m h = plain labels (row.Load to k a) i m h
+      hands_admitted labels (row.Store v k a) i m h = plain labels (row.Store v k a) i m h
+      hands_admitted labels (row.Branch t a b target) i Settled h =
           guessed target i (hand target Settled (at_target K t a b ks) ∷ hand (i + 1) Settled (at_next K t a b ks) ∷ [])
           (hand target Settled (at_target K t a b gs) ∷ hand (i + 1) Settled (at_next K t a b gs) ∷ [])
           (more target Settled (at_target K t a b ks) (at_target K t a b gs) (hand (i + 1) Settled (at_next K t a b ks) ∷ []) (hand (i + 1) Settled (at_next K t a b gs) ∷ [])
           (target_mono t a b) (one (i + 1) Settled (at_next K t a b ks) (at_next K t a b gs) (next_mono t a b))) h
-      hands-admitted labels (row.Branch t a b target) i Guessed h = guessed target i [] [] (λ e. e) h
-      hands-admitted labels (row.Jump target) i m h = one target m ks gs lower h
-      hands-admitted labels row.Fence i Settled h = one (i + 1) Settled ks gs lower h
-      hands-admitted labels row.Fence i Guessed h = refl
-      hands-admitted labels row.Halt i m h = refl
+      hands_admitted labels (row.Branch t a b target) i Guessed h = guessed target i [] [] (λ e. e) h
+      hands_admitted labels (row.Jump target) i m h = one target m ks gs lower h
+      hands_admitted labels row.Fence i Settled h = one (i + 1) Settled ks gs lower h
+      hands_admitted labels row.Fence i Guessed h = refl
+      hands_admitted labels row.Halt i m h = refl
 
   -- what a fact leaks, every higher one leaks
   hidden_mono : (reader l m : L) → K.below l m ≡ true → not (K.below l reader) ≡ true → not (K.below m reader) ≡ true
@@ -191,7 +191,7 @@ module _ {L : Type 0} (K : Kind L) (laws : Lawful K) where
       → admits K table (hands_fact K labels x i m g) ≡ true → admits K table (hands_fact K labels x i m f) ≡ true
   facts_admitted Unreached g low table labels x i m h = refl
   facts_admitted (Reached ks) Unreached low table labels x i m h = absurd (false≢true low)
-  facts_admitted (Reached ks) (Reached gs) low table labels x i m h = hands-admitted ks gs low table labels x i m h
+  facts_admitted (Reached ks) (Reached gs) low table labels x i m h = hands_admitted ks gs low table labels x i m h
 
   pub facts_leak : (f g : Fact L) → below_fact K f g ≡ true → (labels : List L) (reader : L) (x : Row) (why : Reason)
       → leaks_fact K labels reader x why f ≡ true → leaks_fact K labels reader x why g ≡ true

@@ -122,7 +122,7 @@ module _ {L : Type 0} (K : Kind L) (labels : List L) (rows : List Row) (reader :
           leaking = subst (λ n. leaks_fact K labels reader (get_or rows (s / 2) row.Halt) why (get_or table n Unreached) ≡ true) (sym (slot_of_place s)) leak;
           earliest = λ other within c h.
               ⊎_elim
-              (λ same. omega (arith, slot_of_place s, same, reason-first other c h same))
+              (λ same. omega (arith, slot_of_place s, same, reason_first other c h same))
               (⊎_elim
               (λ less. absurd (both_ways _ (before other.row other.mode other.reason within less c) h))
               (λ more. omega (arith, slot_of_place s, more, number_small why)))
@@ -134,10 +134,10 @@ module _ {L : Type 0} (K : Kind L) (labels : List L) (rows : List Row) (reader :
         number_small reason.Branch = omega arith
         number_small reason.Spill = omega arith
 
-        reason-first : (other : Leak) → counts sought other.mode other.reason ≡ true
+        reason_first : (other : Leak) → counts sought other.mode other.reason ≡ true
             → leaks_at K labels reader rows table other.row other.mode other.reason ≡ true → slot other.row other.mode ≡ s
             → reason_number why ≤ reason_number other.reason
-        reason-first other c h same =
+        reason_first other c h same =
             at_slot (λ n j k. counts sought k other.reason ≡ true → leaks_fact K labels reader (get_or rows j row.Halt) other.reason (get_or table n Unreached) ≡ true
             → reason_number why ≤ reason_number other.reason) other.row other.mode
             (λ c h. (some_at (get_or rows (slot other.row other.mode / 2) row.Halt) (mode_at (slot other.row other.mode)) sought

@@ -147,14 +147,14 @@ module _ {L : Type 0} (K : Kind L) (laws : Lawful K) (labels : List L) (reader :
       either_side target false here next us xs h = arrive (r + 1) Guessed ks next rs qs p us xs h
 
       -- a settled branch: its outcome's side in settled mode, narrowed
-      settled-side : (t : Test) (a : ℕ) (b : Operand) (target : ℕ) → fields_fit (length labels) (row.Branch t a b target) ≡ true → (out : Bool)
+      settled_side : (t : Test) (a : ℕ) (b : Operand) (target : ℕ) → fields_fit (length labels) (row.Branch t a b target) ≡ true → (out : Bool)
           → outcome t (get_or rs a 0) (operand rs b) ≡ out → outcome t (get_or qs a 0) (operand qs b) ≡ out
           → Goes (hand target Settled (at_target K t a b ks)) → Goes (hand (r + 1) Settled (at_next K t a b ks))
           → Two Settled (level (side out target r) rs ss) (level (side out target r) qs ts)
-      settled-side t a b target fits true left right here next =
+      settled_side t a b target fits true left right here next =
           let (ra, rb) = and_parts _ _ fits in
           arrive target Settled (at_target K t a b ks) here rs qs (target_pairs K laws labels reader few ks rs qs p t a b ra rb left right) ss ts st
-      settled-side t a b target fits false left right here next =
+      settled_side t a b target fits false left right here next =
           let (ra, rb) = and_parts _ _ fits in
           arrive (r + 1) Settled (at_next K t a b ks) next rs qs (next_pairs K laws labels reader few ks rs qs p t a b ra rb left right) ss ts st
 
@@ -168,40 +168,40 @@ module _ {L : Type 0} (K : Kind L) (laws : Lawful K) (labels : List L) (reader :
     -- the level after a settled row, and after a guessed row that is not barred; a halt stays where it is
     module _ (r : ℕ) (ks : List (Known L)) (rs qs : List ℕ) (p : Pairs K labels reader ks rs qs) (ws vs : List ℕ)
         (size : length ws ≡ length labels) (agree : Agree K labels reader ws vs) (ss ts : List Write) (st : Stores K labels reader ss ts) where
-      pub settled-branch : (t : Test) (a : ℕ) (b : Operand) (target : ℕ) → fields_fit (length labels) (row.Branch t a b target) ≡ true
+      pub settled_branch : (t : Test) (a : ℕ) (b : Operand) (target : ℕ) → fields_fit (length labels) (row.Branch t a b target) ≡ true
           → (out : Bool) → outcome t (get_or rs a 0) (operand rs b) ≡ out → outcome t (get_or qs a 0) (operand qs b) ≡ out
           → AllGo (hands K labels (row.Branch t a b target) r Settled ks) → Two Settled (level (side out target r) rs ss) (level (side out target r) qs ts)
-      settled-branch t a b target fits out left right go =
-          settled-side r Settled ks rs qs p ws vs size agree ss ts st t a b target fits out left right go.1.1.0 go.1.1.1.0
+      settled_branch t a b target fits out left right go =
+          settled_side r Settled ks rs qs p ws vs size agree ss ts st t a b target fits out left right go.1.1.0 go.1.1.1.0
 
-      pub settled-moved : (x : Row) → fields_fit (length labels) x ≡ true → target_fits (length rows) r x ≡ true
+      pub settled_moved : (x : Row) → fields_fit (length labels) x ≡ true → target_fits (length rows) r x ≡ true
           → (move x r rs ws).number ≡ (move x r qs vs).number → Two Settled (level r rs ss) (level r qs ts) → AllGo (hands K labels x r Settled ks)
           → Moved r Settled ks rs qs p ws vs size agree ss ts st x
-      settled-moved (row.Set to value) fits target shown old go = plain r Settled ks rs qs p ws vs size agree ss ts st (row.Set to value) fits shown go.0
-      settled-moved (row.Copy to from) fits target shown old go = plain r Settled ks rs qs p ws vs size agree ss ts st (row.Copy to from) fits shown go.0
-      settled-moved (row.Compute o to a b) fits target shown old go = plain r Settled ks rs qs p ws vs size agree ss ts st (row.Compute o to a b) fits shown go.0
-      settled-moved (row.Load to k a) fits target shown old go = plain r Settled ks rs qs p ws vs size agree ss ts st (row.Load to k a) fits shown go.0
-      settled-moved (row.Store v k a) fits target shown old go = plain r Settled ks rs qs p ws vs size agree ss ts st (row.Store v k a) fits shown go.0
-      settled-moved (row.Branch t a b to) fits target shown old go =
+      settled_moved (row.Set to value) fits target shown old go = plain r Settled ks rs qs p ws vs size agree ss ts st (row.Set to value) fits shown go.0
+      settled_moved (row.Copy to from) fits target shown old go = plain r Settled ks rs qs p ws vs size agree ss ts st (row.Copy to from) fits shown go.0
+      settled_moved (row.Compute o to a b) fits target shown old go = plain r Settled ks rs qs p ws vs size agree ss ts st (row.Compute o to a b) fits shown go.0
+      settled_moved (row.Load to k a) fits target shown old go = plain r Settled ks rs qs p ws vs size agree ss ts st (row.Load to k a) fits shown go.0
+      settled_moved (row.Store v k a) fits target shown old go = plain r Settled ks rs qs p ws vs size agree ss ts st (row.Store v k a) fits shown go.0
+      settled_moved (row.Branch t a b to) fits target shown old go =
           let outs = outcomes r Settled ks rs qs p ws vs size agree ss ts st t a b to target shown in
           subst (λ o. Two Settled (level (side (outcome t (get_or rs a 0) (operand rs b)) to r) rs ss) (level (side o to r) qs ts)) outs
-          (settled-branch t a b to fits (outcome t (get_or rs a 0) (operand rs b)) refl (sym outs) go)
-      settled-moved (row.Jump to) fits target shown old go = arrive to Settled ks go.0 rs qs p ss ts st
-      settled-moved row.Fence fits target shown old go = plain r Settled ks rs qs p ws vs size agree ss ts st row.Fence fits shown go.0
-      settled-moved row.Halt fits target shown old go = old
+          (settled_branch t a b to fits (outcome t (get_or rs a 0) (operand rs b)) refl (sym outs) go)
+      settled_moved (row.Jump to) fits target shown old go = arrive to Settled ks go.0 rs qs p ss ts st
+      settled_moved row.Fence fits target shown old go = plain r Settled ks rs qs p ws vs size agree ss ts st row.Fence fits shown go.0
+      settled_moved row.Halt fits target shown old go = old
 
-      pub guessed-moved : (x : Row) (n : ℕ) → barred x n ≡ false → fields_fit (length labels) x ≡ true → target_fits (length rows) r x ≡ true
+      pub guessed_moved : (x : Row) (n : ℕ) → barred x n ≡ false → fields_fit (length labels) x ≡ true → target_fits (length rows) r x ≡ true
           → (move x r rs ws).number ≡ (move x r qs vs).number → AllGo (hands K labels x r Guessed ks)
           → Moved r Guessed ks rs qs p ws vs size agree ss ts st x
-      guessed-moved (row.Set to value) n open' fits target shown go = plain r Guessed ks rs qs p ws vs size agree ss ts st (row.Set to value) fits shown go.0
-      guessed-moved (row.Copy to from) n open' fits target shown go = plain r Guessed ks rs qs p ws vs size agree ss ts st (row.Copy to from) fits shown go.0
-      guessed-moved (row.Compute o to a b) n open' fits target shown go = plain r Guessed ks rs qs p ws vs size agree ss ts st (row.Compute o to a b) fits shown go.0
-      guessed-moved (row.Load to k a) n open' fits target shown go = plain r Guessed ks rs qs p ws vs size agree ss ts st (row.Load to k a) fits shown go.0
-      guessed-moved (row.Store v k a) n open' fits target shown go = plain r Guessed ks rs qs p ws vs size agree ss ts st (row.Store v k a) fits shown go.0
-      guessed-moved (row.Branch t a b to) n open' fits target shown go =
+      guessed_moved (row.Set to value) n open' fits target shown go = plain r Guessed ks rs qs p ws vs size agree ss ts st (row.Set to value) fits shown go.0
+      guessed_moved (row.Copy to from) n open' fits target shown go = plain r Guessed ks rs qs p ws vs size agree ss ts st (row.Copy to from) fits shown go.0
+      guessed_moved (row.Compute o to a b) n open' fits target shown go = plain r Guessed ks rs qs p ws vs size agree ss ts st (row.Compute o to a b) fits shown go.0
+      guessed_moved (row.Load to k a) n open' fits target shown go = plain r Guessed ks rs qs p ws vs size agree ss ts st (row.Load to k a) fits shown go.0
+      guessed_moved (row.Store v k a) n open' fits target shown go = plain r Guessed ks rs qs p ws vs size agree ss ts st (row.Store v k a) fits shown go.0
+      guessed_moved (row.Branch t a b to) n open' fits target shown go =
           subst (λ o. Two Guessed (level (side (outcome t (get_or rs a 0) (operand rs b)) to r) rs ss) (level (side o to r) qs ts))
           (outcomes r Guessed ks rs qs p ws vs size agree ss ts st t a b to target shown)
           (either_side r Guessed ks rs qs p ws vs size agree ss ts st to (outcome t (get_or rs a 0) (operand rs b)) go.0 go.1.0 ss ts st)
-      guessed-moved (row.Jump to) n open' fits target shown go = arrive to Guessed ks go.0 rs qs p ss ts st
-      guessed-moved row.Fence n open' fits target shown go = absurd (true≢false open')
-      guessed-moved row.Halt n open' fits target shown go = absurd (true≢false open')
+      guessed_moved (row.Jump to) n open' fits target shown go = arrive to Guessed ks go.0 rs qs p ss ts st
+      guessed_moved row.Fence n open' fits target shown go = absurd (true≢false open')
+      guessed_moved row.Halt n open' fits target shown go = absurd (true≢false open')

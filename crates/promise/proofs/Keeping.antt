@@ -232,8 +232,8 @@ module _ {L : Type 0} (K : Kind L) (laws : Lawful K) (labels : List L) (reader :
     -- level 0 of both is the plain machine after so many steps, and has no stores pending
     record Linked (s t : State) : Type 0 where
       rel : Rel s t
-      left-clean : (bottom s.top s.waiting).stores ≡ []
-      right-clean : (bottom t.top t.waiting).stores ≡ []
+      left_clean : (bottom s.top s.waiting).stores ≡ []
+      right_clean : (bottom t.top t.waiting).stores ≡ []
       steps : ℕ
       left : level_zero s ≡ plain_after rows steps (plain_start ws₀)
       right : level_zero t ≡ plain_after rows steps (plain_start vs₀)
@@ -255,7 +255,7 @@ module _ {L : Type 0} (K : Kind L) (laws : Lawful K) (labels : List L) (reader :
     linked_next : (s t : State) → Linked s t → Next s t
     linked_next s t h going =
         guarded_tops s.top s.waiting t.top t.waiting s.words t.words s.finished t.finished h.rel.size h.rel.words h.rel.stacks
-        going (sym h.rel.finished ∙ going) h.left-clean h.right-clean
+        going (sym h.rel.finished ∙ going) h.left_clean h.right_clean
         (ap (plain_event rows) h.left ∙ event_alike rows (plain_start ws₀) (plain_start vs₀) plain h.steps ∙ sym (ap (plain_event rows) h.right))
 
     linked_on : (B : Build) (s t : State) → Linked s t → Rel (step B rows s).1 (step B rows t).1 → Linked (step B rows s).1 (step B rows t).1
@@ -265,18 +265,18 @@ module _ {L : Type 0} (K : Kind L) (laws : Lawful K) (labels : List L) (reader :
         go : (fs gs : List Level) → s.waiting ≡ fs → t.waiting ≡ gs → Linked (step B rows s).1 (step B rows t).1
         go [] [] e e' = record {
           rel = rel;
-          left-clean = bottom_clean B rows s h.left-clean;
-          right-clean = bottom_clean B rows t h.right-clean;
+          left_clean = bottom_clean B rows s h.left_clean;
+          right_clean = bottom_clean B rows t h.right_clean;
           steps = suc h.steps;
-          left = settled_step B rows s e (subst (λ fs. (bottom s.top fs).stores ≡ []) e h.left-clean) ∙ ap (plain_next rows) h.left ∙ sym (after_more rows h.steps (plain_start ws₀));
-          right = settled_step B rows t e' (subst (λ fs. (bottom t.top fs).stores ≡ []) e' h.right-clean) ∙ ap (plain_next rows) h.right ∙ sym (after_more rows h.steps (plain_start vs₀));
+          left = settled_step B rows s e (subst (λ fs. (bottom s.top fs).stores ≡ []) e h.left_clean) ∙ ap (plain_next rows) h.left ∙ sym (after_more rows h.steps (plain_start ws₀));
+          right = settled_step B rows t e' (subst (λ fs. (bottom t.top fs).stores ≡ []) e' h.right_clean) ∙ ap (plain_next rows) h.right ∙ sym (after_more rows h.steps (plain_start vs₀));
         }
         go [] (g ∷ gs) e e' = absurd (omega (arith, ap length e, ap length e', heights s t h.rel))
         go (f ∷ fs) [] e e' = absurd (omega (arith, ap length e, ap length e', heights s t h.rel))
         go (f ∷ fs) (g ∷ gs) e e' = record {
           rel = rel;
-          left-clean = bottom_clean B rows s h.left-clean;
-          right-clean = bottom_clean B rows t h.right-clean;
+          left_clean = bottom_clean B rows s h.left_clean;
+          right_clean = bottom_clean B rows t h.right_clean;
           steps = h.steps;
           left = guessed_step B rows s f fs e ∙ h.left;
           right = guessed_step B rows t g gs e' ∙ h.right;
@@ -285,4 +285,4 @@ module _ {L : Type 0} (K : Kind L) (laws : Lawful K) (labels : List L) (reader :
     pub guarded_runs : (B : Build) (p q : List ℕ) → length ws₀ ≡ length labels → Agree K labels reader ws₀ vs₀ → Alike K labels reader B rows (start ws₀ p q) (start vs₀ p q)
     guarded_runs B p q size agree =
         runs_alike B Linked (λ s t h. h.rel) linked_next (linked_on B) (start ws₀ p q) (start vs₀ p q)
-        (record { rel = starts ws₀ vs₀ p q size agree; left-clean = refl; right-clean = refl; steps = 0; left = refl; right = refl })
+        (record { rel = starts ws₀ vs₀ p q size agree; left_clean = refl; right_clean = refl; steps = 0; left = refl; right = refl })

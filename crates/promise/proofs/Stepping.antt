@@ -20,7 +20,7 @@ use Rattle.promise.specs.Moves.{Write, move, side, laid, halts}
 use Rattle.promise.specs.Guessing.{Build, Level, State, Answer, level, levels, seen, pending, bottom, barred, carried, misled, branched, obeyed, asked, step, shows, same}
 use Rattle.promise.specs.Promise.{Agree}
 use Rattle.promise.specs.Relation.{Stores, Twins, Stacks, Related}
-use Rattle.promise.proofs.Arrivals.{laid_length, laid_agree, stores_both, stores_count, outcomes, hands_go, AllGo, either_side, settled-branch, settled-moved, guessed-moved}
+use Rattle.promise.proofs.Arrivals.{laid_length, laid_agree, stores_both, stores_count, outcomes, hands_go, AllGo, either_side, settled_branch, settled_moved, guessed_moved}
 
 abbrev mk : Level → List Level → Bool → List ℕ → List ℕ → List ℕ → State
 mk f fs fin ws p q = record { top = f; waiting = fs; finished = fin; words = ws; predictor = p; settler = q }
@@ -104,13 +104,13 @@ module _ {L : Type 0} (K : Kind L) (laws : Lawful K) (labels : List L) (reader :
       zero_seen : Agree K labels reader (laid ss ws) (laid ts vs)
       zero_seen = laid_agree K laws labels reader ss ts ws vs size agree twins.stores
 
-      zero-carried : (x : Row) (p' : List ℕ) → x ≡ get_or rows r row.Halt → Shown x r rs qs (laid ss ws) (laid ts vs)
+      zero_carried : (x : Row) (p' : List ℕ) → x ≡ get_or rows r row.Halt → Shown x r rs qs (laid ss ws) (laid ts vs)
           → Same (carried (mk (level r rs ss) [] false ws p' q) x) (carried (mk (level r qs ts) [] false vs p' q) x)
-      zero-carried x p' is shown = (
+      zero_carried x p' is shown = (
         ap₂ (λ l n. shows l r 0 n) (same_letter x r rs qs (laid ss ws) (laid ts vs)) shown.0,
         related _ [] _ [] (halts x) _ _ p' q (laid_length (move x r rs (laid ss ws)).writes ws ∙ size)
             (laid_agree K laws labels reader (move x r rs (laid ss ws)).writes (move x r qs (laid ts vs)).writes ws vs size agree shown.1)
-            (settled-moved K laws labels reader rows valid table closed r twins.known rs qs twins.pairs (laid ss ws) (laid ts vs)
+            (settled_moved K laws labels reader rows valid table closed r twins.known rs qs twins.pairs (laid ss ws) (laid ts vs)
             (laid_length ss ws ∙ size) zero_seen ss ts twins.stores x
             (subst (λ y. fields_fit (length labels) y ≡ true) (sym is) (fields_fit_lem rows (length labels) (length labels) valid r twins.inside))
             (subst (λ y. target_fits (length rows) r y ≡ true) (sym is) (target_fits_lem rows (length labels) (length labels) valid r twins.inside))
@@ -118,10 +118,10 @@ module _ {L : Type 0} (K : Kind L) (laws : Lawful K) (labels : List L) (reader :
             (subst (λ y. AllGo K laws labels reader rows valid table closed (hands K labels y r Settled twins.known)) (sym is) (hands_go K laws labels reader rows valid table closed r Settled twins.known twins.inside twins.reached))),
       )
 
-      zero-misled : (t : Test) (a : ℕ) (b : Operand) (target : ℕ) (p' : List ℕ) (guess : Bool) → row.Branch t a b target ≡ get_or rows r row.Halt
+      zero_misled : (t : Test) (a : ℕ) (b : Operand) (target : ℕ) (p' : List ℕ) (guess : Bool) → row.Branch t a b target ≡ get_or rows r row.Halt
           → (out : Bool) → outcome t (get_or rs a 0) (operand rs b) ≡ out → outcome t (get_or qs a 0) (operand qs b) ≡ out
           → Same (misled (mk (level r rs ss) [] false ws p' q) (side out target r) (side guess target r)) (misled (mk (level r qs ts) [] false vs p' q) (side out target r) (side guess target r))
-      zero-misled t a b target p' guess is out left right =
+      zero_misled t a b target p' guess is out left right =
           let go = subst (λ y. AllGo K laws labels reader rows valid table closed (hands K labels y r Settled twins.known)) (sym is)
           (hands_go K laws labels reader rows valid table closed r Settled twins.known twins.inside twins.reached) in
           let fits = subst (λ y. fields_fit (length labels) y ≡ true) (sym is) (fields_fit_lem rows (length labels) (length labels) valid r twins.inside) in (
@@ -129,30 +129,30 @@ module _ {L : Type 0} (K : Kind L) (laws : Lawful K) (labels : List L) (reader :
             related _ (level (side out target r) rs ss ∷ []) _ (level (side out target r) qs ts ∷ []) false ws vs p' q size agree (
               either_side K laws labels reader rows valid table closed r Settled twins.known rs qs twins.pairs (laid ss ws) (laid ts vs)
                   (laid_length ss ws ∙ size) zero_seen ss ts twins.stores target guess go.0 go.1.0 [] [] tt,
-              settled-branch K laws labels reader rows valid table closed r twins.known rs qs twins.pairs (laid ss ws) (laid ts vs)
+              settled_branch K laws labels reader rows valid table closed r twins.known rs qs twins.pairs (laid ss ws) (laid ts vs)
                   (laid_length ss ws ∙ size) zero_seen ss ts twins.stores t a b target fits out left right go,
             ),
           )
 
-      zero-obeyed : (B : Build) (x : Row) → x ≡ get_or rows r row.Halt → Shown x r rs qs (laid ss ws) (laid ts vs)
+      zero_obeyed : (B : Build) (x : Row) → x ≡ get_or rows r row.Halt → Shown x r rs qs (laid ss ws) (laid ts vs)
           → Same (obeyed B (mk (level r rs ss) [] false ws p q) x) (obeyed B (mk (level r qs ts) [] false vs p q) x)
-      zero-obeyed B (row.Set to value) is shown = zero-carried (row.Set to value) p is shown
-      zero-obeyed B (row.Copy to from) is shown = zero-carried (row.Copy to from) p is shown
-      zero-obeyed B (row.Compute o to a b) is shown = zero-carried (row.Compute o to a b) p is shown
-      zero-obeyed B (row.Load to k a) is shown = zero-carried (row.Load to k a) p is shown
-      zero-obeyed B (row.Store v k a) is shown = zero-carried (row.Store v k a) p is shown
-      zero-obeyed B (row.Branch t a b target) is shown =
+      zero_obeyed B (row.Set to value) is shown = zero_carried (row.Set to value) p is shown
+      zero_obeyed B (row.Copy to from) is shown = zero_carried (row.Copy to from) p is shown
+      zero_obeyed B (row.Compute o to a b) is shown = zero_carried (row.Compute o to a b) p is shown
+      zero_obeyed B (row.Load to k a) is shown = zero_carried (row.Load to k a) p is shown
+      zero_obeyed B (row.Store v k a) is shown = zero_carried (row.Store v k a) p is shown
+      zero_obeyed B (row.Branch t a b target) is shown =
           let x = row.Branch t a b target in
           let out = outcome t (get_or rs a 0) (operand rs b) in
           let outs = outcomes K laws labels reader rows valid table closed r Settled twins.known rs qs twins.pairs (laid ss ws) (laid ts vs)
           (laid_length ss ws ∙ size) zero_seen ss ts twins.stores t a b target
           (subst (λ y. target_fits (length rows) r y ≡ true) (sym is) (target_fits_lem rows (length labels) (length labels) valid r twins.inside)) shown.0 in
           subst (λ o. Same (branched B (mk (level r rs ss) [] false ws p q) x target out) (branched B (mk (level r qs ts) [] false vs p q) x target o)) outs
-          (same_cond _ _ _ _ _ _ refl (λ h. zero-carried x (B.learn p r out) is shown)
-          (λ h. zero-misled t a b target (B.learn p r out) (B.guess p r) is out refl (sym outs)))
-      zero-obeyed B (row.Jump to) is shown = zero-carried (row.Jump to) p is shown
-      zero-obeyed B row.Fence is shown = zero-carried row.Fence p is shown
-      zero-obeyed B row.Halt is shown = zero-carried row.Halt p is shown
+          (same_cond _ _ _ _ _ _ refl (λ h. zero_carried x (B.learn p r out) is shown)
+          (λ h. zero_misled t a b target (B.learn p r out) (B.guess p r) is out refl (sym outs)))
+      zero_obeyed B (row.Jump to) is shown = zero_carried (row.Jump to) p is shown
+      zero_obeyed B row.Fence is shown = zero_carried row.Fence p is shown
+      zero_obeyed B row.Halt is shown = zero_carried row.Halt p is shown
 
     -- above level 0
     module _ (f' : Level) (fs : List Level) (g' : Level) (gs : List Level) (twins : Two Guessed (level r rs ss) (level r qs ts)) (rest : Stack f' fs g' gs) where
@@ -162,25 +162,25 @@ module _ {L : Type 0} (K : Kind L) (laws : Lawful K) (labels : List L) (reader :
       abbrev Vs : List ℕ
       Vs = seen (level r qs ts ∷ g' ∷ gs) vs
 
-      up-size : length Ws ≡ length labels
-      up-size = seen_length (level r rs ss ∷ f' ∷ fs) ws ∙ size
+      up_size : length Ws ≡ length labels
+      up_size = seen_length (level r rs ss ∷ f' ∷ fs) ws ∙ size
 
-      up-seen : Agree K labels reader Ws Vs
-      up-seen = stack_seen (level r rs ss) (f' ∷ fs) (level r qs ts) (g' ∷ gs) ws vs size agree (twins, rest)
+      up_seen : Agree K labels reader Ws Vs
+      up_seen = stack_seen (level r rs ss) (f' ∷ fs) (level r qs ts) (g' ∷ gs) ws vs size agree (twins, rest)
 
-      up-heights : length (f' ∷ fs) ≡ length (g' ∷ gs)
-      up-heights = stack_heights (level r rs ss) (f' ∷ fs) (level r qs ts) (g' ∷ gs) (twins, rest)
+      up_heights : length (f' ∷ fs) ≡ length (g' ∷ gs)
+      up_heights = stack_heights (level r rs ss) (f' ∷ fs) (level r qs ts) (g' ∷ gs) (twins, rest)
 
       up_go : (x : Row) → x ≡ get_or rows r row.Halt → AllGo K laws labels reader rows valid table closed (hands K labels x r Guessed twins.known)
       up_go x is = subst (λ y. AllGo K laws labels reader rows valid table closed (hands K labels y r Guessed twins.known)) (sym is)
           (hands_go K laws labels reader rows valid table closed r Guessed twins.known twins.inside twins.reached)
 
-      up-carried : (x : Row) (p' q' : List ℕ) (n : ℕ) → barred x n ≡ false → x ≡ get_or rows r row.Halt → Shown x r rs qs Ws Vs
+      up_carried : (x : Row) (p' q' : List ℕ) (n : ℕ) → barred x n ≡ false → x ≡ get_or rows r row.Halt → Shown x r rs qs Ws Vs
           → Same (carried (mk (level r rs ss) (f' ∷ fs) false ws p' q') x) (carried (mk (level r qs ts) (g' ∷ gs) false vs p' q') x)
-      up-carried x p' q' n open' is shown = (
-        ap₂ (λ l k. shows l r (length (f' ∷ fs)) k) (same_letter x r rs qs Ws Vs) shown.0 ∙ ap (λ h. shows (move x r qs Vs).letter r h (move x r qs Vs).number) up-heights,
+      up_carried x p' q' n open' is shown = (
+        ap₂ (λ l k. shows l r (length (f' ∷ fs)) k) (same_letter x r rs qs Ws Vs) shown.0 ∙ ap (λ h. shows (move x r qs Vs).letter r h (move x r qs Vs).number) up_heights,
         related _ (f' ∷ fs) _ (g' ∷ gs) false ws vs p' q' size agree (
-          guessed-moved K laws labels reader rows valid table closed r twins.known rs qs twins.pairs Ws Vs up-size up-seen
+          guessed_moved K laws labels reader rows valid table closed r twins.known rs qs twins.pairs Ws Vs up_size up_seen
               (ss ++ (move x r rs Ws).writes) (ts ++ (move x r qs Vs).writes)
               (stores_both K laws labels reader ss ts (move x r rs Ws).writes (move x r qs Vs).writes twins.stores shown.1) x n open'
               (subst (λ y. fields_fit (length labels) y ≡ true) (sym is) (fields_fit_lem rows (length labels) (length labels) valid r twins.inside))
@@ -190,34 +190,34 @@ module _ {L : Type 0} (K : Kind L) (laws : Lawful K) (labels : List L) (reader :
         ),
       )
 
-      up-misled : (t : Test) (a : ℕ) (b : Operand) (target : ℕ) (p' q' : List ℕ) (guess : Bool) → row.Branch t a b target ≡ get_or rows r row.Halt → (out : Bool)
+      up_misled : (t : Test) (a : ℕ) (b : Operand) (target : ℕ) (p' q' : List ℕ) (guess : Bool) → row.Branch t a b target ≡ get_or rows r row.Halt → (out : Bool)
           → Same (misled (mk (level r rs ss) (f' ∷ fs) false ws p' q') (side out target r) (side guess target r)) (misled (mk (level r qs ts) (g' ∷ gs) false vs p' q') (side out target r) (side guess target r))
-      up-misled t a b target p' q' guess is out =
+      up_misled t a b target p' q' guess is out =
           let go = up_go (row.Branch t a b target) is in
-          let sides = either_side K laws labels reader rows valid table closed r Guessed twins.known rs qs twins.pairs Ws Vs up-size up-seen ss ts twins.stores target in (
-            ap (λ h. shows letter.Wrong r (h + 1) (side guess target r)) up-heights,
+          let sides = either_side K laws labels reader rows valid table closed r Guessed twins.known rs qs twins.pairs Ws Vs up_size up_seen ss ts twins.stores target in (
+            ap (λ h. shows letter.Wrong r (h + 1) (side guess target r)) up_heights,
             related _ (level (side out target r) rs ss ∷ f' ∷ fs) _ (level (side out target r) qs ts ∷ g' ∷ gs) false ws vs p' q' size agree
                 (sides guess go.0 go.1.0 [] [] tt, (sides out go.0 go.1.0 ss ts twins.stores, rest)),
           )
 
-      up-obeyed : (B : Build) (x : Row) (q' : List ℕ) (n : ℕ) → barred x n ≡ false → x ≡ get_or rows r row.Halt → Shown x r rs qs Ws Vs
+      up_obeyed : (B : Build) (x : Row) (q' : List ℕ) (n : ℕ) → barred x n ≡ false → x ≡ get_or rows r row.Halt → Shown x r rs qs Ws Vs
           → Same (obeyed B (mk (level r rs ss) (f' ∷ fs) false ws p q') x) (obeyed B (mk (level r qs ts) (g' ∷ gs) false vs p q') x)
-      up-obeyed B (row.Set to value) q' n open' is shown = up-carried (row.Set to value) p q' n open' is shown
-      up-obeyed B (row.Copy to from) q' n open' is shown = up-carried (row.Copy to from) p q' n open' is shown
-      up-obeyed B (row.Compute o to a b) q' n open' is shown = up-carried (row.Compute o to a b) p q' n open' is shown
-      up-obeyed B (row.Load to k a) q' n open' is shown = up-carried (row.Load to k a) p q' n open' is shown
-      up-obeyed B (row.Store v k a) q' n open' is shown = up-carried (row.Store v k a) p q' n open' is shown
-      up-obeyed B (row.Branch t a b target) q' n open' is shown =
+      up_obeyed B (row.Set to value) q' n open' is shown = up_carried (row.Set to value) p q' n open' is shown
+      up_obeyed B (row.Copy to from) q' n open' is shown = up_carried (row.Copy to from) p q' n open' is shown
+      up_obeyed B (row.Compute o to a b) q' n open' is shown = up_carried (row.Compute o to a b) p q' n open' is shown
+      up_obeyed B (row.Load to k a) q' n open' is shown = up_carried (row.Load to k a) p q' n open' is shown
+      up_obeyed B (row.Store v k a) q' n open' is shown = up_carried (row.Store v k a) p q' n open' is shown
+      up_obeyed B (row.Branch t a b target) q' n open' is shown =
           let x = row.Branch t a b target in
           let out = outcome t (get_or rs a 0) (operand rs b) in
-          let outs = outcomes K laws labels reader rows valid table closed r Guessed twins.known rs qs twins.pairs Ws Vs up-size up-seen ss ts twins.stores t a b target
+          let outs = outcomes K laws labels reader rows valid table closed r Guessed twins.known rs qs twins.pairs Ws Vs up_size up_seen ss ts twins.stores t a b target
           (subst (λ y. target_fits (length rows) r y ≡ true) (sym is) (target_fits_lem rows (length labels) (length labels) valid r twins.inside)) shown.0 in
           subst (λ o. Same (branched B (mk (level r rs ss) (f' ∷ fs) false ws p q') x target out) (branched B (mk (level r qs ts) (g' ∷ gs) false vs p q') x target o)) outs
-          (same_cond _ _ _ _ _ _ (ap (λ h. same out (B.guess p r) || leb 8 h) up-heights) (λ h. up-carried x (B.learn p r out) q' n open' is shown)
-          (λ h. up-misled t a b target (B.learn p r out) q' (B.guess p r) is out))
-      up-obeyed B (row.Jump to) q' n open' is shown = up-carried (row.Jump to) p q' n open' is shown
-      up-obeyed B row.Fence q' n open' is shown = absurd (true≢false open')
-      up-obeyed B row.Halt q' n open' is shown = absurd (true≢false open')
+          (same_cond _ _ _ _ _ _ (ap (λ h. same out (B.guess p r) || leb 8 h) up_heights) (λ h. up_carried x (B.learn p r out) q' n open' is shown)
+          (λ h. up_misled t a b target (B.learn p r out) q' (B.guess p r) is out))
+      up_obeyed B (row.Jump to) q' n open' is shown = up_carried (row.Jump to) p q' n open' is shown
+      up_obeyed B row.Fence q' n open' is shown = absurd (true≢false open')
+      up_obeyed B row.Halt q' n open' is shown = absurd (true≢false open')
 
       -- what a machine above level 0 does where it asks at a height
       abbrev asking : Build → Row → Level → Level → List Level → List ℕ → ℕ → Answer × State
@@ -225,9 +225,9 @@ module _ {L : Type 0} (K : Kind L) (laws : Lawful K) (labels : List L) (reader :
           cond (B.settles q r h) (shows letter.Settle r (length below) 0, mk next below false xs p (B.asked q r h))
           (cond (barred x (pending (top ∷ next ∷ below))) (shows letter.Flush r 0 0, mk (bottom next below) [] false xs p (B.asked q r h)) (obeyed B (mk top (next ∷ below) false xs p (B.asked q r h)) x))
 
-      up-asked : (B : Build) → Shown (get_or rows r row.Halt) r rs qs Ws Vs
+      up_asked : (B : Build) → Shown (get_or rows r row.Halt) r rs qs Ws Vs
           → Same (asked B rows (mk (level r rs ss) (f' ∷ fs) false ws p q)) (asked B rows (mk (level r qs ts) (g' ∷ gs) false vs p q))
-      up-asked B shown =
+      up_asked B shown =
           let x = get_or rows r row.Halt in
           let h = length (f' ∷ fs) in
           let q' = B.asked q r h in
@@ -238,24 +238,24 @@ module _ {L : Type 0} (K : Kind L) (laws : Lawful K) (labels : List L) (reader :
           let barred-two = barred x (pending (level r qs ts ∷ g' ∷ gs)) in
           let flushed-one : Answer × State = (shows letter.Flush r 0 0, mk (bottom f' fs) [] false ws p q') in
           let flushed-two : Answer × State = (shows letter.Flush r 0 0, mk (bottom g' gs) [] false vs p q') in
-          subst (λ h'. Same (asking B x (level r rs ss) f' fs ws h) (asking B x (level r qs ts) g' gs vs h')) up-heights
+          subst (λ h'. Same (asking B x (level r rs ss) f' fs ws h) (asking B x (level r qs ts) g' gs vs h')) up_heights
           (same_cond (B.settles q r h) (B.settles q r h)
           (shows letter.Settle r (length fs) 0, mk f' fs false ws p q') (shows letter.Settle r (length gs) 0, mk g' gs false vs p q')
           (cond barred-one flushed-one (obeyed B one x)) (cond barred-two flushed-two (obeyed B two x)) refl
           (λ e. (ap (λ k. shows letter.Settle r k 0) (stack_heights f' fs g' gs rest), related f' fs g' gs false ws vs p q' size agree rest))
           (λ e. same_cond barred-one barred-two flushed-one flushed-two (obeyed B one x) (obeyed B two x) (ap (barred x) same-pending)
           (λ e. (refl, related (bottom f' fs) [] (bottom g' gs) [] false ws vs p q' size agree (stack_bottom f' fs g' gs rest)))
-          (λ open'. up-obeyed B x q' (pending (level r rs ss ∷ f' ∷ fs)) open' refl shown)))
+          (λ open'. up_obeyed B x q' (pending (level r rs ss ∷ f' ∷ fs)) open' refl shown)))
 
     -- any step
     core : (B : Build) (fs gs : List Level) (fin : Bool) → Stack (level r rs ss) fs (level r qs ts) gs
         → (fin ≡ false → Shown (get_or rows r row.Halt) r rs qs (seen (level r rs ss ∷ fs) ws) (seen (level r qs ts ∷ gs) vs))
         → Same (step B rows (mk (level r rs ss) fs fin ws p q)) (step B rows (mk (level r qs ts) gs fin vs p q))
     core B fs gs true stack shown = (refl, related _ fs _ gs true ws vs p q size agree stack)
-    core B [] [] false stack shown = zero-obeyed stack B (get_or rows r row.Halt) refl (shown refl)
+    core B [] [] false stack shown = zero_obeyed stack B (get_or rows r row.Halt) refl (shown refl)
     core B [] (g ∷ gs) false stack shown = absurd stack
     core B (f ∷ fs) [] false stack shown = absurd stack
-    core B (f ∷ fs) (g ∷ gs) false stack shown = up-asked f fs g gs stack.0 stack.1 B (shown refl)
+    core B (f ∷ fs) (g ∷ gs) false stack shown = up_asked f fs g gs stack.0 stack.1 B (shown refl)
 
   stack_row : (f : Level) (fs : List Level) (g : Level) (gs : List Level) → Stack f fs g gs → f.row ≡ g.row
   stack_row f [] g [] h = h.same_row

@@ -1,4 +1,4 @@
--- The laws of the rule for addresses, and what its code needs of it. Only this file unfolds `address` and `inWindow`.
+-- The laws of the rule for addresses, and what its code needs of it. Only this file unfolds `address` and `in_window`.
 use Rattle.std.proofs.Common.{◌≡◌, ℕ, ◌+◌, ◌%◌, ◌^◌, ◌<◌, ◌≤◌, true, cond, ◌&&◌, ltb, leb, ◌⊎◌, refl, inl, inr, arith, pow_mono}
 use Rattle.std.proofs.lemmas.Bool.{cases_lt}
 use Rattle.std.proofs.lemmas.Bool.Decides.{nat_tests}

@@ -6,7 +6,7 @@ use Rattle.cards.specs.Cards.{Card}
 use Rattle.cards.specs.Reading.{head_only, lines_in}
 use Rattle.cards.specs.Drafts.{Steps, Gathers}
 use Rattle.cards.proofs.Stepping.{steps_by, took, failed}
-use Rattle.cards.proofs.Gathering.{gathers_by, read_extent, head_refused, lines_refused, whole-refused, whole-accepted}
+use Rattle.cards.proofs.Gathering.{gathers_by, read_extent, head_refused, lines_refused, whole_refused, whole_accepted}
 use Rattle.cards.proofs.reading.gather.Goals as goal
 use Rattle.cards.proofs.reading.gather.Goals.{In-Some, After-take_lines}
 
@@ -53,7 +53,7 @@ returns-in_err-check_whole c =
     let (card, read, drafts) = took (rest_read at.After-take_lines) c.take_lines.new.draft c.take_lines.result (rest-steps at.After-take_lines) c.in_ok-take_lines.was in
     let told = err_from_is_err_and c.from_residual-in_err-check_whole.result c.from_residual-in_err-check_whole.ensures.1 in
     gathers_by c.from_residual-in_err-check_whole.result
-    (whole-refused c.args.text.now c.in-Some.first.now _ (sym c.if-not-fits_extent.ensures) (lines_are at.In-Some)
+    (whole_refused c.args.text.now c.in-Some.first.now _ (sym c.if-not-fits_extent.ensures) (lines_are at.In-Some)
     c.in_ok-head_line.field-0 (sym c.in_ok-head_line.ensures.value) card read _ (sym (c.in_err-check_whole.ensures card drafts)))
     (subst (Gathers (Err _)) (sym told.1) told.2)
 
@@ -63,7 +63,7 @@ returns c =
     let draft = c.take_lines.new.draft in
     let (card, read, drafts) = took (rest_read at.After-take_lines) draft c.take_lines.result (rest-steps at.After-take_lines) c.in_ok-take_lines.was in
     gathers_by (Ok draft)
-    (whole-accepted c.args.text.now c.in-Some.first.now _ (sym c.if-not-fits_extent.ensures) (lines_are at.In-Some)
+    (whole_accepted c.args.text.now c.in-Some.first.now _ (sym c.if-not-fits_extent.ensures) (lines_are at.In-Some)
     c.in_ok-head_line.field-0 (sym c.in_ok-head_line.ensures.value) card read (omega (arith, drafts.count, draft.few))
     (sym (c.in_ok-check_whole.ensures card drafts)))
     drafts

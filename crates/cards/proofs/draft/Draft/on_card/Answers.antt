@@ -5,7 +5,7 @@ use Rattle.refusals.specs.declared.Refusal.TheVariants as plain
 use Rattle.refusals.specs.declared.cards.CardRefusal.TheVariants as refusal
 use Rattle.routine.specs.declared.rows.Row.{Row}
 use Rattle.routine.specs.Limits.{word_count_fits, DeclinedBy}
-use Rattle.cards.proofs.Wholes.{fields_fail, whole_target, whole-ending}
+use Rattle.cards.proofs.Wholes.{fields_fail, whole_target, whole_ending}
 use Rattle.cards.proofs.draft.Draft.on_card.Goals as goal
 
 -- there is a label for each of the words
@@ -40,4 +40,4 @@ returns-in-Ending c = λ card drafts.
     let i = c.in-Ending.row in
     let declined = subst₂ (λ rows e. DeclinedBy rows self.head.words self.head.words e) drafts.rows c.in-Ending.is c.requires in
     let line : 2 + length card.labs + (length card.rows - 1) ≡ self.labs + 2 + i = omega (arith, drafts.labs, declined.4) in
-    whole-ending card declined.0 declined.3 declined.5 ∙ ap (λ n. Err (refusal.Ending n)) line
+    whole_ending card declined.0 declined.3 declined.5 ∙ ap (λ n. Err (refusal.Ending n)) line
