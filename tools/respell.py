@@ -3,7 +3,7 @@
 
 usage: tools/respell.py [--list]     at the top of a tree that the toolchain's port.py has turned, once, before any edit by hand
 
-It renames what specs/ and proofs/ define: top-level words and lemmas, record fields. A lower-case name with capitals or dashes gets
+It renames what specs/ and proofs/ define: words, lemmas, record fields. A lower-case name with capitals or dashes gets
 underscores (`labFits` -> `lab_fits`, `every-push` -> `every_push`); `special` below has the names that need more. Names of functions in
 src/, goals and steps that the checker makes, strings and comments stay. --list prints the old and the new name of each, and changes nothing.
 """
@@ -24,6 +24,8 @@ special = {
     "last-ends": "last_ends_lem",
     "result": "result_of",
 }
+# Helper lemmas beside the answers of a function; all other names there are goals, which the checker makes.
+helpers = {"as-named", "part-written", "words-fit", "by-fields", "rest-steps", "part-long"}
 # Only in the files that speak of what facts/specs/Rules defines, and not as a field or in Rust code.
 RESULT = re.compile(r"facts/(specs|proofs)/|promise/proofs/")
 
@@ -40,8 +42,8 @@ def texts():
 
 
 def defined():
-    """Each name that specs/ or a file of lemmas defines."""
-    names = set()
+    """Each name that specs/ or a file of lemmas defines, and the helpers."""
+    names = set(helpers)
     for path in files("specs/**/*.antt") + files("proofs/**/*.antt"):
         if os.path.basename(path) in ("Answers.antt", "Invariants.antt", "Proof.antt"):
             continue

@@ -29,10 +29,10 @@ module _ (a : Accepted) (rows : List Row) (numbers : List ℕ) (words-read : a.w
       )
 
 -- the kind is the one that the head names, and the parts are those that were read
-as-named : (line : Line) (a : Accepted) (kind : LabelKind) (rows : List Row) (numbers : List ℕ) → a.kind ≡ kind
+as_named : (line : Line) (a : Accepted) (kind : LabelKind) (rows : List Row) (numbers : List ℕ) → a.kind ≡ kind
     → GivesLine kind (take (a.words - 0) numbers) (take (a.rows - 0) rows) a.reader (line_bytes line)
     → GivesLine a.kind (take a.words numbers) (take a.rows rows) a.reader (line_bytes line)
-as-named line a kind rows numbers is gives =
+as_named line a kind rows numbers is gives =
     subst (λ kind. GivesLine kind (take a.words numbers) (take a.rows rows) a.reader (line_bytes line)) (sym is)
     (subst (λ labels. GivesLine kind labels (take a.rows rows) a.reader (line_bytes line)) (part a.words numbers)
     (subst (λ rows. GivesLine kind (take (a.words - 0) numbers) rows a.reader (line_bytes line)) (part a.rows rows) gives))
@@ -44,8 +44,8 @@ pub answer_as-requires-in-Grades : goal.answer_as-requires-in-Grades
 answer_as-requires-in-Grades c = (lit< tt, rooms c.args.accepted c.args.rows.now c.args.numbers.now c.requires.1.0 c.requires.1.1)
 
 pub returns-in-Makers : goal.returns-in-Makers
-returns-in-Makers c = as-named c.answer_as.result c.args.accepted _ c.args.rows.now c.args.numbers.now c.in-Makers.is c.answer_as.ensures
+returns-in-Makers c = as_named c.answer_as.result c.args.accepted _ c.args.rows.now c.args.numbers.now c.in-Makers.is c.answer_as.ensures
 
 pub returns-in-Grades : goal.returns-in-Grades
 returns-in-Grades c =
-    as-named c.answer_as-in-Grades.result c.args.accepted _ c.args.rows.now c.args.numbers.now c.in-Grades.is c.answer_as-in-Grades.ensures
+    as_named c.answer_as-in-Grades.result c.args.accepted _ c.args.rows.now c.args.numbers.now c.in-Grades.is c.answer_as-in-Grades.ensures

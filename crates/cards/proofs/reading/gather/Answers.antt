@@ -18,8 +18,8 @@ lines_are c = ap lines_of (sym c.new-reader.ensures.left) ∙ c.in-Some.ensures.
 abbrev rest_read : After-take_lines → Result Card CardRefusal
 rest_read c = lines_in (head_only c.in_ok-head_line.field-0) 2 (lines_of (left_in c.next_line.new.self))
 
-rest-steps : (c : After-take_lines) → Steps (rest_read c) c.take_lines.new.draft c.take_lines.result
-rest-steps c =
+rest_steps : (c : After-take_lines) → Steps (rest_read c) c.take_lines.new.draft c.take_lines.result
+rest_steps c =
     let reader = c.next_line.new.self in
     let head = c.in_ok-head_line.field-0 in
     let second : reader.line + 1 ≡ 2 = omega (arith, c.in-Some.ensures.1, c.new-reader.ensures.line) in
@@ -44,13 +44,13 @@ returns-in_err-take_lines c =
     gathers_by c.from_residual-in_err-take_lines.result
     (lines_refused c.args.text.now c.in-Some.first.now _ (sym c.if-not-fits_extent.ensures) (lines_are at.In-Some)
     c.in_ok-head_line.field-0 (sym c.in_ok-head_line.ensures.value) _
-    (failed (rest_read at.After-take_lines) c.take_lines.new.draft c.take_lines.result _ (rest-steps at.After-take_lines) c.in_err-take_lines.was))
+    (failed (rest_read at.After-take_lines) c.take_lines.new.draft c.take_lines.result _ (rest_steps at.After-take_lines) c.in_err-take_lines.was))
     (subst (Gathers (Err _)) (sym told.1) told.2)
 
 pub returns-in_err-check_whole : goal.returns-in_err-check_whole
 returns-in_err-check_whole c =
     let at = goal.at.returns-in_err-check_whole c in
-    let (card, read, drafts) = took (rest_read at.After-take_lines) c.take_lines.new.draft c.take_lines.result (rest-steps at.After-take_lines) c.in_ok-take_lines.was in
+    let (card, read, drafts) = took (rest_read at.After-take_lines) c.take_lines.new.draft c.take_lines.result (rest_steps at.After-take_lines) c.in_ok-take_lines.was in
     let told = err_from_is_err_and c.from_residual-in_err-check_whole.result c.from_residual-in_err-check_whole.ensures.1 in
     gathers_by c.from_residual-in_err-check_whole.result
     (whole_refused c.args.text.now c.in-Some.first.now _ (sym c.if-not-fits_extent.ensures) (lines_are at.In-Some)
@@ -61,7 +61,7 @@ pub returns : goal.returns
 returns c =
     let at = goal.at.returns c in
     let draft = c.take_lines.new.draft in
-    let (card, read, drafts) = took (rest_read at.After-take_lines) draft c.take_lines.result (rest-steps at.After-take_lines) c.in_ok-take_lines.was in
+    let (card, read, drafts) = took (rest_read at.After-take_lines) draft c.take_lines.result (rest_steps at.After-take_lines) c.in_ok-take_lines.was in
     gathers_by (Ok draft)
     (whole_accepted c.args.text.now c.in-Some.first.now _ (sym c.if-not-fits_extent.ensures) (lines_are at.In-Some)
     c.in_ok-head_line.field-0 (sym c.in_ok-head_line.ensures.value) card read (omega (arith, drafts.count, draft.few))

@@ -36,8 +36,8 @@ valid : {L : Type 0} (labels : List L) (rows : List Row) (words : ℕ) → withi
 valid labels rows words fits = subst (λ w. within rows w (length labels) ≡ true) (words_labelled rows words (length labels) fits) fits
 
 -- the part of the table that is worked on is as long as the rows ask
-part-long : {X : Type 0} (table : List X) (rows rows' : List Row) → rows ≡ rows' → 2 * length rows' ≤ length table → length (take (2 * length rows - 0) table) ≡ 2 * length rows
-part-long table rows rows' same few =
+part_long : {X : Type 0} (table : List X) (rows rows' : List Row) → rows ≡ rows' → 2 * length rows' ≤ length table → length (take (2 * length rows - 0) table) ≡ 2 * length rows
+part_long table rows rows' same few =
     let whole : 2 * length rows - 0 ≡ 2 * length rows = omega arith in
     ap (λ n. length (take n table)) whole ∙ length-take-le (2 * length rows) table (subst (λ r. 2 * length r ≤ length table) (sym same) few)
 
@@ -47,7 +47,7 @@ fill_least-requires g c =
       search rules,
       (
         subst₂ Valid (sym c.rows-rows.ensures) (sym c.labels-labels.ensures) (valid (labels_of taken) (rows_of taken) taken.words taken.fits),
-        part-long c.args.table.now c.rows-rows.result.now (rows_of taken) c.rows-rows.ensures c.requires,
+        part_long c.args.table.now c.rows-rows.result.now (rows_of taken) c.rows-rows.ensures c.requires,
       ),
     )
 
@@ -56,7 +56,7 @@ verdict_under-verdict-requires g c =
     let taken = c.args.taken in (
       search rules,
       (
-        c.fill_least.auto.table ∙ part-long c.args.table.now c.rows-rows.result.now (rows_of taken) c.rows-rows.ensures c.requires,
+        c.fill_least.auto.table ∙ part_long c.args.table.now c.rows-rows.result.now (rows_of taken) c.rows-rows.ensures c.requires,
         subst (λ rows. length rows ≤ 256) (sym c.rows-rows.ensures) (few_rows (rows_of taken) taken.words (length (labels_of taken)) taken.fits),
       ),
     )
@@ -67,7 +67,7 @@ returns g c =
     let table = c.args.table.now in
     let work = c.fill_least.new.table in
     let whole : 2 * length rows - 0 ≡ 2 * length rows = omega arith in
-    let long = c.fill_least.auto.table ∙ part-long table rows (rows_of c.args.taken) c.rows-rows.ensures c.requires in
+    let long = c.fill_least.auto.table ∙ part_long table rows (rows_of c.args.taken) c.rows-rows.ensures c.requires in
     let judged = judges g.L.Label.kind g.L.Label.lawful c.labels-labels.result.now rows c.args.reader table work c.verdict_under-verdict.result
     (2 * length rows - 0) whole long c.fill_least.ensures c.verdict_under-verdict.ensures in
     record {

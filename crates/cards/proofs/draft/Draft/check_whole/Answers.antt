@@ -7,14 +7,14 @@ use Rattle.cards.proofs.Painting.{part}
 use Rattle.cards.proofs.Wholes.{whole_ok}
 use Rattle.cards.proofs.draft.Draft.check_whole.Goals as goal
 
-part-long : {X : Type 0} (n : ℕ) (xs : List X) → n ≤ length xs → length (take (n - 0) xs) ≡ n
-part-long n xs inside = ap length (part n xs) ∙ length-take-le n xs inside
+part_long : {X : Type 0} (n : ℕ) (xs : List X) → n ≤ length xs → length (take (n - 0) xs) ≡ n
+part_long n xs inside = ap length (part n xs) ∙ length-take-le n xs inside
 
 pub on_card-requires : goal.on_card-requires
 on_card-requires c =
     let self = c.args.self.now in
     let words = self.head.words in
-    subst₂ (λ rows labels. DeclinedBy rows words labels c.in-Err.refusal) (part self.count self.rows) (part-long words self.labels (omega (arith, self.small)))
+    subst₂ (λ rows labels. DeclinedBy rows words labels c.in-Err.refusal) (part self.count self.rows) (part_long words self.labels (omega (arith, self.small)))
     c.in-Err.ensures
 
 pub returns-in-Ok : goal.returns-in-Ok

@@ -9,8 +9,8 @@ use Rattle.cards.proofs.Wholes.{fields_fail, whole_target, whole_ending}
 use Rattle.cards.proofs.draft.Draft.on_card.Goals as goal
 
 -- there is a label for each of the words
-words-fit : (words : ℕ) → 1 ≤ words → words ≤ 4096 → word_count_fits words words ≡ true
-words-fit words some small = and_from _ _ (and_from _ _ (le-leb 1 words some) (le-leb words 4096 small)) (eq-eqb words words refl)
+words_fit : (words : ℕ) → 1 ≤ words → words ≤ 4096 → word_count_fits words words ≡ true
+words_fit words some small = and_from _ _ (and_from _ _ (le-leb 1 words some) (le-leb words 4096 small)) (eq-eqb words words refl)
 
 -- the ground of a refusal that is known
 declined : (rows : List Row) (words : ℕ) {e f : Refusal} → e ≡ f → DeclinedBy rows words words e → DeclinedBy rows words words f
@@ -21,7 +21,7 @@ unreachable-requires c =
     let self = c.args.self.now in
     let words = self.head.words in
     let rows = take self.count self.rows in
-    ⊎_elim (λ is. both_ways _ (declined rows words {f = plain.WordCount} is c.requires).1 (words-fit words self.some self.small))
+    ⊎_elim (λ is. both_ways _ (declined rows words {f = plain.WordCount} is c.requires).1 (words_fit words self.some self.small))
     (⊎_elim (λ at. fields_fail rows words at.0 self.fits (declined rows words {f = plain.RowField at.0} at.1 c.requires).2)
     (⊎_elim (λ is. declined rows words {f = plain.WorkTable} is c.requires) (λ is. declined rows words {f = plain.GradeRange} is c.requires)))
     c.in-WordCount.is

@@ -12,20 +12,20 @@ use Rattle.cards.proofs.Stepping.{steps_by, row_taken}
 use Rattle.cards.proofs.draft.Draft.take_row.Goals as goal
 
 -- the first field says no more than the word
-by-fields : (words : ℕ) (word : Word) (name : List ℕ) (four : Four) → row_in words word (texts name four.second four.third four.fourth) ≡ row_in words word four
-by-fields words Set name four = refl
-by-fields words Copy name four = refl
-by-fields words (Compute operation) name four = refl
-by-fields words Load name four = refl
-by-fields words Store name four = refl
-by-fields words (Branch test) name four = refl
-by-fields words Jump name four = refl
-by-fields words Fence name four = refl
-by-fields words Halt name four = refl
+by_fields : (words : ℕ) (word : Word) (name : List ℕ) (four : Four) → row_in words word (texts name four.second four.third four.fourth) ≡ row_in words word four
+by_fields words Set name four = refl
+by_fields words Copy name four = refl
+by_fields words (Compute operation) name four = refl
+by_fields words Load name four = refl
+by_fields words Store name four = refl
+by_fields words (Branch test) name four = refl
+by_fields words Jump name four = refl
+by_fields words Fence name four = refl
+by_fields words Halt name four = refl
 
 -- a row that was read has fields within their limits
 fits : (words : ℕ) (word : Word) (four : Four) (row : Row) → 1 ≤ words → words ≤ 4096 → row_in words word four ≡ Ok row → fields_fit words row ≡ true
-fits words word four row some small is = (row_sound words some small word (texts (name_of word) four.second four.third four.fourth) row refl (by-fields words word (name_of word) four ∙ is)).1.fields
+fits words word four row some small is = (row_sound words some small word (texts (name_of word) four.second four.third four.fourth) row refl (by_fields words word (name_of word) four ∙ is)).1.fields
 
 pub add_row-requires : goal.add_row-requires
 add_row-requires c =
