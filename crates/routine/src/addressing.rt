@@ -19,8 +19,6 @@ pub fn reaches(words: usize, base: u32, width: u8, word: usize) -> bool
 }
 
 // Stands for the laws that everything above knows of the two.
-pub fn address_laws() -> u8
+pub fn address_laws()
     ensures { AddressLaws }
-{
-    0
-}
+{}
