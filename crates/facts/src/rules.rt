@@ -12,13 +12,11 @@ use routine::rows::{Operand, Row, Test};
 fn window_label<L: Label>(labels: &[L], base: u32, width: u8, label: L) -> L
     ensures { result ≡ join_window L.Label.kind labels.now base width label }
 {
-    let mut joined = label;
-    for i in 0..labels.len() {
-        if reaches(labels.len(), base, width, i) {
-            joined = joined.join(labels[i]);
-        }
-    }
-    joined
+    labels
+        .iter()
+        .enumerate()
+        .filter(|(i, _)| reaches(labels.len(), base, width, *i))
+        .fold(label, |joined, (_, word)| joined.join(*word))
 }
 
 // What is known after a row, on its way to the next one.
@@ -27,10 +25,7 @@ pub fn known_after<L: Label>(row: Row, known: &Registers<L>, labels: &[L]) -> Re
 {
     match row {
         Row::Set { to, value } => {
-            let new = Known {
-                label: L::lowest(),
-                width: bits_of(value),
-            };
+            let new = of_operand(known, Operand::Constant(value));
             with(copied(known), to, new)
         }
         Row::Copy { to, from } => {
@@ -82,22 +77,18 @@ pub fn known_at_target<L: Label>(
 ) -> Registers<L>
     ensures { result ≡ at_target L.Label.kind test left right known.now }
 {
-    match test {
-        Test::Less => match right {
-            Operand::Register(b) => {
-                let other = known_at(known, b);
-                narrow(copied(known), left, other.width)
-            }
-            Operand::Constant(k) => narrow(copied(known), left, bits_of(k.saturating_sub(1))),
-        },
-        Test::Equal => match right {
-            Operand::Register(b) => {
-                let first = known_at(known, left);
-                let second = known_at(known, b);
-                narrow(narrow(copied(known), left, second.width), b, first.width)
-            }
-            Operand::Constant(k) => narrow(copied(known), left, bits_of(k)),
-        },
+    match (test, right) {
+        (Test::Less, Operand::Register(b)) => narrow(copied(known), left, known_at(known, b).width),
+        (Test::Less, Operand::Constant(k)) => narrow(
+            copied(known),
+            left,
+            bits_of(k.saturating_sub(1)),
+        ),
+        (Test::Equal, Operand::Register(b)) => {
+            let narrowed = narrow(copied(known), left, known_at(known, b).width);
+            narrow(narrowed, b, known_at(known, left).width)
+        }
+        (Test::Equal, Operand::Constant(k)) => narrow(copied(known), left, bits_of(k)),
     }
 }
 
@@ -110,14 +101,8 @@ pub fn known_at_next<L: Label>(
 ) -> Registers<L>
     ensures { result ≡ at_next L.Label.kind test left right known.now }
 {
-    match test {
-        Test::Less => match right {
-            Operand::Register(b) => {
-                let first = known_at(known, left);
-                narrow(copied(known), b, first.width)
-            }
-            Operand::Constant(_) => copied(known),
-        },
-        Test::Equal => copied(known),
+    match (test, right) {
+        (Test::Less, Operand::Register(b)) => narrow(copied(known), b, known_at(known, left).width),
+        (Test::Less, Operand::Constant(_)) | (Test::Equal, _) => copied(known),
     }
 }
