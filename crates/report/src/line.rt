@@ -12,6 +12,7 @@ pub struct Line {
 
 impl Line {
     // The line of these parts, one after the other. A caller shows that they fit.
+    // Parts, since no proof closes with `write!`: its contract speaks of `Ok` alone, and never promises it.
     pub(crate) fn of(parts: &[&str]) -> Line
         requires { length (flat_map (λ part. part.now) parts.now) ≤ 64 }
         ensures { line_bytes result ≡ flat_map (λ part. part.now) parts.now }

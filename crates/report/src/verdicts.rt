@@ -8,6 +8,7 @@ use facts::types::{Mode, Reason};
 use itoa::Buffer;
 use judging::{Leak, Verdict};
 
+// Words for the parts of a line. `impl Display` would serve `write!` alone, whose success nothing promises.
 fn mode_word(mode: Mode) -> &'static str
     ensures { result.now ≡ mode_word mode }
 {
