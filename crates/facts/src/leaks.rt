@@ -1,11 +1,12 @@
 // What leaks at a row.
 ghost use Rattle.std.specs.Prelude.{◌≡◌};
-ghost use Rattle.facts.specs.Leaks.{counts, hidden, hidden_operand, spills, sought_leak, first_reason};
+ghost use Rattle.facts.specs.Leaks.{counts, hidden, hidden_operand, spills_from, sought_leak, first_reason};
 
 use crate::registers::known_at;
+use crate::rules::window_of;
 use crate::types::{Mode, Reason, Registers, Sought};
 use labels::Label;
-use routine::addressing::reaches;
+use routine::addressing::Window;
 use routine::rows::{Operand, Row};
 
 impl Sought {
@@ -41,11 +42,13 @@ fn is_operand_hidden<L: Label>(known: &Registers<L>, operand: Operand, reader: L
 }
 
 // Whether some word that the store can reach has a label that the stored value's label is not at or below.
-fn does_spill<L: Label>(labels: &[L], base: u32, width: u8, label: L) -> bool
-    ensures { result ≡ spills L.Label.kind labels.now base width label }
+fn does_spill<L: Label>(labels: &[L], window: Window, label: L) -> bool
+    ensures { result ≡ spills_from L.Label.kind window.words window.base window.width 0 label labels.now }
 {
-    labels.iter().enumerate().any(|(i, word)| reaches(labels.len(), base, width, i)
-        && !label.at_or_below(*word))
+    labels
+        .iter()
+        .enumerate()
+        .any(|(i, word)| window.reaches(i) && !label.at_or_below(*word))
 }
 
 // The first reason, of those sought, for which a row leaks under what is known there.
@@ -72,8 +75,8 @@ pub fn leak_of<L: Label>(
             if is_hidden(known, index, reader) && sought.includes(mode, Reason::Address) {
                 return Some(Reason::Address);
             }
-            let width = known_at(known, index).width;
-            let spilt = does_spill(labels, base, width, known_at(known, from).label);
+            let window = window_of(labels, base, known_at(known, index));
+            let spilt = does_spill(labels, window, known_at(known, from).label);
             (spilt && sought.includes(mode, Reason::Spill)).then_some(Reason::Spill)
         }
         Row::Branch {

@@ -1,21 +1,32 @@
 // What a row makes of what is known before it.
-ghost use Rattle.std.specs.Prelude.{◌≡◌};
-ghost use Rattle.facts.specs.Rules.{join_window, after, at_target, at_next};
+ghost use Rattle.std.specs.Prelude.{◌≡◌, length};
+ghost use Rattle.facts.specs.Rules.{join_from, after, at_target, at_next};
 
 use crate::registers::{bits_of, copied, known_at, narrow, of_operand, result_of, with};
 use crate::types::{Known, Registers};
 use labels::Label;
-use routine::addressing::reaches;
+use routine::addressing::Window;
 use routine::rows::{Operand, Row, Test};
 
-// The label joined with those of all words that an index below 2 ^ width can reach.
-fn window_label<L: Label>(labels: &[L], base: u32, width: u8, label: L) -> L
-    ensures { result ≡ join_window L.Label.kind labels.now base width label }
+// The words that a load or a store can reach, from what is known of its index.
+pub(crate) fn window_of<L: Label>(labels: &[L], base: u32, index: Known<L>) -> Window
+    ensures { result ≡ record { words = length labels.now; base = base; width = index.width } }
+{
+    Window {
+        words: labels.len(),
+        base,
+        width: index.width,
+    }
+}
+
+// The label joined with those of all words of the window.
+fn window_label<L: Label>(labels: &[L], window: Window, label: L) -> L
+    ensures { result ≡ join_from L.Label.kind window.words window.base window.width 0 labels.now label }
 {
     labels
         .iter()
         .enumerate()
-        .filter(|(i, _)| reaches(labels.len(), base, width, *i))
+        .filter(|(i, _)| window.reaches(*i))
         .fold(label, |joined, (_, word)| joined.join(*word))
 }
 
@@ -46,7 +57,7 @@ pub fn known_after<L: Label>(row: Row, known: &Registers<L>, labels: &[L]) -> Re
         Row::Load { to, base, index } => {
             let at = known_at(known, index);
             let new = Known {
-                label: window_label(labels, base, at.width, at.label),
+                label: window_label(labels, window_of(labels, base, at), at.label),
                 width: 32,
             };
             with(copied(known), to, new)

@@ -1,4 +1,4 @@
-use Rattle.std.proofs.Common.{not, ◌&&◌, length, ◌∙◌, rules}
+use Rattle.std.proofs.Common.{not, ◌&&◌, ◌∙◌, rules}
 use Rattle.std.proofs.lemmas.Iterator.{YieldsList-from_slice}
 use Rattle.std.proofs.lemmas.Iterator.Consumers.{YieldsList-from_enumerate}
 use Rattle.std.proofs.lemmas.Iterator.Search.{any_from_yields_List}
@@ -11,7 +11,7 @@ pub returns : goal.returns
 returns g c =
     let K = g.L.Label.kind in
     let labels = c.args.labels.now in
-    any_from_yields_List (λ p. in_window (length labels) c.args.base c.args.width p.0 && not (K.below c.args.label p.1)) _ _ c.any.result c.any.ensures.ran
+    any_from_yields_List (λ p. in_window c.args.window.words c.args.window.base c.args.window.width p.0 && not (K.below c.args.label p.1)) _ _ c.any.result c.any.ensures.ran
     (YieldsList-from_enumerate (YieldsList-from_slice labels (cc)) cc)
     (λ x b q k. search (rules, tests))
-    ∙ spilt_words K (length labels) c.args.base c.args.width 0 labels c.args.label
+    ∙ spilt_words K c.args.window.words c.args.window.base c.args.window.width 0 labels c.args.label
