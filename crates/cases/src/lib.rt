@@ -37,35 +37,29 @@ const INDEX: Row = Row::Load {
     index: 0,
 };
 
-// Row 4 is gone to where the index is below 16.
-const BELOW_16: Row = Row::Branch {
-    test: Test::Less,
-    left: 1,
-    right: Operand::Constant(16),
-    target: 4,
-};
+// Row 4 is gone to where the index is below the bound. A macro, as the next two: a constant's value may not call a `const fn`.
+macro_rules! below {
+    ($bound:literal) => {
+        Row::Branch {
+            test: Test::Less,
+            left: 1,
+            right: Operand::Constant($bound),
+            target: 4,
+        }
+    };
+}
 
-const BELOW_17: Row = Row::Branch {
-    test: Test::Less,
-    left: 1,
-    right: Operand::Constant(17),
-    target: 4,
-};
-
-// The index is cut to its lower bits.
-const KEEP_4_BITS: Row = Row::Compute {
-    operation: Operation::And,
-    to: 1,
-    left: 1,
-    right: Operand::Constant(15),
-};
-
-const KEEP_5_BITS: Row = Row::Compute {
-    operation: Operation::And,
-    to: 1,
-    left: 1,
-    right: Operand::Constant(31),
-};
+// The index is cut to the bits of the mask.
+macro_rules! keep {
+    ($mask:literal) => {
+        Row::Compute {
+            operation: Operation::And,
+            to: 1,
+            left: 1,
+            right: Operand::Constant($mask),
+        }
+    };
+}
 
 // A word is read at the index, and another at what it holds.
 const READ: Row = Row::Load {
@@ -80,35 +74,34 @@ const SHOW: Row = Row::Load {
     index: 2,
 };
 
-// r1 is maker 0's first word, and is stored.
+// r1 is maker 0's first word.
 const SEALED: Row = Row::Load {
     to: 1,
     base: 16,
     index: 0,
 };
 
-const STORE_31: Row = Row::Store {
-    from: 1,
-    base: 31,
-    index: 0,
-};
-
-const STORE_32: Row = Row::Store {
-    from: 1,
-    base: 32,
-    index: 0,
-};
+// It is stored at the base.
+macro_rules! store {
+    ($base:literal) => {
+        Row::Store {
+            from: 1,
+            base: $base,
+            index: 0,
+        }
+    };
+}
 
 // The rows of a case.
 pub fn rows(case: Case) -> &'static [Row]
     ensures { result.now ≡ rows_in case }
 {
     match case {
-        Case::OpenCard => &[CLEAR, INDEX, BELOW_16, Row::Halt, READ, SHOW, Row::Halt],
+        Case::OpenCard => &[CLEAR, INDEX, below!(16), Row::Halt, READ, SHOW, Row::Halt],
         Case::Fenced => &[
             CLEAR,
             INDEX,
-            BELOW_16,
+            below!(16),
             Row::Halt,
             Row::Fence,
             READ,
@@ -118,9 +111,9 @@ pub fn rows(case: Case) -> &'static [Row]
         Case::Masked => &[
             CLEAR,
             INDEX,
-            BELOW_16,
+            below!(16),
             Row::Halt,
-            KEEP_4_BITS,
+            keep!(15),
             READ,
             SHOW,
             Row::Halt,
@@ -128,9 +121,9 @@ pub fn rows(case: Case) -> &'static [Row]
         Case::MaskedWide => &[
             CLEAR,
             INDEX,
-            BELOW_16,
+            below!(16),
             Row::Halt,
-            KEEP_5_BITS,
+            keep!(31),
             READ,
             SHOW,
             Row::Halt,
@@ -138,15 +131,15 @@ pub fn rows(case: Case) -> &'static [Row]
         Case::FencedPast => &[
             CLEAR,
             INDEX,
-            BELOW_17,
+            below!(17),
             Row::Halt,
             Row::Fence,
             READ,
             SHOW,
             Row::Halt,
         ],
-        Case::StoredInside => &[CLEAR, SEALED, STORE_31, Row::Halt],
-        Case::StoredOutside => &[CLEAR, SEALED, STORE_32, Row::Halt],
+        Case::StoredInside => &[CLEAR, SEALED, store!(31), Row::Halt],
+        Case::StoredOutside => &[CLEAR, SEALED, store!(32), Row::Halt],
     }
 }
 
@@ -157,15 +150,11 @@ pub fn bench_labels() -> Labels
     ensures { result ≡ bench_labels }
 {
     let mut labels = [MakerSet { members: 0 }; 64];
-    for i in 16..32 {
-        labels[i] = MakerSet { members: 1 };
-    }
+    labels[16..32].fill(MakerSet { members: 1 });
     labels
 }
 
 // Stands for the bench table: the rules give each of the seven routines its verdict, and the open card its eight answers.
-pub fn bench_table() -> u8
+pub fn bench_table()
     ensures { BenchTable }
-{
-    0
-}
+{}
