@@ -19,13 +19,11 @@ fn has_cause(card: &[u8], number: &str) -> anyhow::Result<bool> {
     let number: u8 = number.parse()?;
     let mut rows = [Row::Halt; MAX_ROWS];
     let mut labels = [0; MAX_WORDS];
-    match read(card, &mut rows, &mut labels) {
-        Ok(_) => Ok(false),
-        Err(refusal) => Ok(refusal
-            .told()
-            .cause
-            .is_some_and(|cause| cause.number() == number)),
-    }
+    let Err(refusal) = read(card, &mut rows, &mut labels) else {
+        return Ok(false);
+    };
+    let cause = refusal.told().cause;
+    Ok(cause.is_some_and(|cause| cause.number() == number))
 }
 
 // Tries each line of a list: a path, a space and what is expected of that card.
