@@ -40,13 +40,10 @@ fn verdict_for<'a, L: Label>(
     Ok(judging::judge(taken, reader, table).verdict())
 }
 
-// A work table with room for the facts of as many rows as there may be. A loop: a chain that makes facts of any label would owe
-// that they fit in memory.
+// A work table with room for the facts of as many rows as there may be.
 fn work_table<L: Label>(heap: Global) -> Result<Vec<Fact<L>>, AllocError> {
     let mut table = Vec::new(heap);
-    for _ in 0..MAX_FACTS {
-        table.push(Fact::Unreached)?;
-    }
+    table.resize_with(MAX_FACTS, || Fact::Unreached)?;
     Ok(table)
 }
 
@@ -126,19 +123,12 @@ fn graded(rt: &HostRuntime) -> anyhow::Result<()> {
         labels: &labels,
     };
     let mut table = work_table(rt.alloc())?;
-    let rows = cases::rows(Case::OpenCard);
-    bench.run(
-        "grade 3 before a reader of grade 2",
-        rows,
-        Grade::G2,
-        &mut table,
-    )?;
-    bench.run(
-        "grade 3 before a reader of grade 3",
-        rows,
-        Grade::G3,
-        &mut table,
-    )?;
+    for (name, reader) in [
+        ("grade 3 before a reader of grade 2", Grade::G2),
+        ("grade 3 before a reader of grade 3", Grade::G3),
+    ] {
+        bench.run(name, cases::rows(Case::OpenCard), reader, &mut table)?;
+    }
     if let Err(refusal) = Grade::new(16) {
         print!(rt; "a grade of 16: ")?;
         print_refusal(rt, refusal)?;

@@ -15,7 +15,7 @@ use crate::reader::Reader;
 use refusals::CardRefusal;
 use routine::rows::Row;
 
-// How long a card may be, in bytes.
+// As many bytes as a card may have.
 pub const MAX_CARD: usize = 32768;
 
 // Whether the text is as long as a card may be, and ended as one.
