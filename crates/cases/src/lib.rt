@@ -30,27 +30,42 @@ pub enum Case {
 // r0 is 0.
 const CLEAR: Row = Row::Set { to: 0, value: 0 };
 
-// r1 is the index, word 48.
-const INDEX: Row = Row::Load {
-    to: 1,
-    base: 48,
-    index: 0,
-};
-
-// Row 4 is gone to where the index is below the bound. A macro, as the next two: a constant's value may not call a `const fn`.
-macro_rules! below {
-    ($bound:literal) => {
-        Row::Branch {
-            test: Test::Less,
-            left: 1,
-            right: Operand::Constant($bound),
-            target: 4,
-        }
+// The index is taken from word 48. Where it is below the bound, a word is read at it, after a step if there is one, and another at
+// what that word holds. A macro, as the next two: rows that are lent as constants may call no function.
+macro_rules! reading {
+    ($bound:literal $(, $step:expr)?) => {
+        &[
+            CLEAR,
+            Row::Load {
+                to: 1,
+                base: 48,
+                index: 0,
+            },
+            Row::Branch {
+                test: Test::Less,
+                left: 1,
+                right: Operand::Constant($bound),
+                target: 4,
+            },
+            Row::Halt,
+            $($step,)?
+            Row::Load {
+                to: 2,
+                base: 0,
+                index: 1,
+            },
+            Row::Load {
+                to: 3,
+                base: 32,
+                index: 2,
+            },
+            Row::Halt,
+        ]
     };
 }
 
-// The index is cut to the bits of the mask.
-macro_rules! keep {
+// The index keeps the bits of a mask.
+macro_rules! keeping {
     ($mask:literal) => {
         Row::Compute {
             operation: Operation::And,
@@ -61,34 +76,23 @@ macro_rules! keep {
     };
 }
 
-// A word is read at the index, and another at what it holds.
-const READ: Row = Row::Load {
-    to: 2,
-    base: 0,
-    index: 1,
-};
-
-const SHOW: Row = Row::Load {
-    to: 3,
-    base: 32,
-    index: 2,
-};
-
-// r1 is maker 0's first word.
-const SEALED: Row = Row::Load {
-    to: 1,
-    base: 16,
-    index: 0,
-};
-
-// It is stored at the base.
-macro_rules! store {
+// Maker 0's first word is stored at a base.
+macro_rules! storing {
     ($base:literal) => {
-        Row::Store {
-            from: 1,
-            base: $base,
-            index: 0,
-        }
+        &[
+            CLEAR,
+            Row::Load {
+                to: 1,
+                base: 16,
+                index: 0,
+            },
+            Row::Store {
+                from: 1,
+                base: $base,
+                index: 0,
+            },
+            Row::Halt,
+        ]
     };
 }
 
@@ -97,49 +101,13 @@ pub fn rows(case: Case) -> &'static [Row]
     ensures { result.now ≡ rows_in case }
 {
     match case {
-        Case::OpenCard => &[CLEAR, INDEX, below!(16), Row::Halt, READ, SHOW, Row::Halt],
-        Case::Fenced => &[
-            CLEAR,
-            INDEX,
-            below!(16),
-            Row::Halt,
-            Row::Fence,
-            READ,
-            SHOW,
-            Row::Halt,
-        ],
-        Case::Masked => &[
-            CLEAR,
-            INDEX,
-            below!(16),
-            Row::Halt,
-            keep!(15),
-            READ,
-            SHOW,
-            Row::Halt,
-        ],
-        Case::MaskedWide => &[
-            CLEAR,
-            INDEX,
-            below!(16),
-            Row::Halt,
-            keep!(31),
-            READ,
-            SHOW,
-            Row::Halt,
-        ],
-        Case::FencedPast => &[
-            CLEAR,
-            INDEX,
-            below!(17),
-            Row::Halt,
-            Row::Fence,
-            READ,
-            SHOW,
-            Row::Halt,
-        ],
-        Case::StoredInside => &[CLEAR, SEALED, store!(31), Row::Halt],
-        Case::StoredOutside => &[CLEAR, SEALED, store!(32), Row::Halt],
+        Case::OpenCard => reading!(16),
+        Case::Fenced => reading!(16, Row::Fence),
+        Case::Masked => reading!(16, keeping!(15)),
+        Case::MaskedWide => reading!(16, keeping!(31)),
+        Case::FencedPast => reading!(17, Row::Fence),
+        Case::StoredInside => storing!(31),
+        Case::StoredOutside => storing!(32),
     }
 }
 
