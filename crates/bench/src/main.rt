@@ -43,7 +43,7 @@ fn verdict_for<'a, L: Label>(
 // A work table with room for the facts of as many rows as there may be.
 fn work_table<L: Label>(heap: Global) -> Result<Vec<Fact<L>>, AllocError> {
     let mut table = Vec::new(heap);
-    table.resize_with(MAX_FACTS, || Fact::Unreached)?;
+    table.resize_with(MAX_FACTS, || None)?;
     Ok(table)
 }
 
@@ -129,7 +129,7 @@ fn graded(rt: &HostRuntime) -> anyhow::Result<()> {
     ] {
         bench.run(name, cases::rows(Case::OpenCard), reader, &mut table)?;
     }
-    if let Err(refusal) = Grade::new(16) {
+    if let Err(refusal) = Grade::try_from(16) {
         print!(rt; "a grade of 16: ")?;
         print_refusal(rt, refusal)?;
     }

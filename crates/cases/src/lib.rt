@@ -30,84 +30,124 @@ pub enum Case {
 // r0 is 0.
 const CLEAR: Row = Row::Set { to: 0, value: 0 };
 
-// The index is taken from word 48. Where it is below the bound, a word is read at it, after a step if there is one, and another at
-// what that word holds. A macro, as the next two: rows that are lent as constants may call no function.
-macro_rules! reading {
-    ($bound:literal $(, $step:expr)?) => {
-        &[
-            CLEAR,
-            Row::Load {
-                to: 1,
-                base: 48,
-                index: 0,
-            },
-            Row::Branch {
-                test: Test::Less,
-                left: 1,
-                right: Operand::Constant($bound),
-                target: 4,
-            },
-            Row::Halt,
-            $($step,)?
-            Row::Load {
-                to: 2,
-                base: 0,
-                index: 1,
-            },
-            Row::Load {
-                to: 3,
-                base: 32,
-                index: 2,
-            },
-            Row::Halt,
-        ]
-    };
-}
+// r1 is the index, word 48.
+const INDEX: Row = Row::Load {
+    to: 1,
+    base: 48,
+    index: 0,
+};
 
-// The index keeps the bits of a mask.
-macro_rules! keeping {
-    ($mask:literal) => {
-        Row::Compute {
-            operation: Operation::And,
-            to: 1,
-            left: 1,
-            right: Operand::Constant($mask),
-        }
-    };
-}
+// Row 4 is gone to where the index is below 16. Rows that differ in a number are constants each: a constant's value may call no
+// function, and a macro would hide the rows.
+const BELOW_16: Row = Row::Branch {
+    test: Test::Less,
+    left: 1,
+    right: Operand::Constant(16),
+    target: 4,
+};
 
-// Maker 0's first word is stored at a base.
-macro_rules! storing {
-    ($base:literal) => {
-        &[
-            CLEAR,
-            Row::Load {
-                to: 1,
-                base: 16,
-                index: 0,
-            },
-            Row::Store {
-                from: 1,
-                base: $base,
-                index: 0,
-            },
-            Row::Halt,
-        ]
-    };
-}
+const BELOW_17: Row = Row::Branch {
+    test: Test::Less,
+    left: 1,
+    right: Operand::Constant(17),
+    target: 4,
+};
+
+// The index is cut to its lower bits.
+const KEEP_4_BITS: Row = Row::Compute {
+    operation: Operation::And,
+    to: 1,
+    left: 1,
+    right: Operand::Constant(15),
+};
+
+const KEEP_5_BITS: Row = Row::Compute {
+    operation: Operation::And,
+    to: 1,
+    left: 1,
+    right: Operand::Constant(31),
+};
+
+// A word is read at the index, and another at what it holds.
+const READ: Row = Row::Load {
+    to: 2,
+    base: 0,
+    index: 1,
+};
+
+const SHOW: Row = Row::Load {
+    to: 3,
+    base: 32,
+    index: 2,
+};
+
+// r1 is maker 0's first word, and is stored.
+const SEALED: Row = Row::Load {
+    to: 1,
+    base: 16,
+    index: 0,
+};
+
+const STORE_31: Row = Row::Store {
+    from: 1,
+    base: 31,
+    index: 0,
+};
+
+const STORE_32: Row = Row::Store {
+    from: 1,
+    base: 32,
+    index: 0,
+};
 
 // The rows of a case.
 pub fn rows(case: Case) -> &'static [Row]
     ensures { result.now ≡ rows_in case }
 {
     match case {
-        Case::OpenCard => reading!(16),
-        Case::Fenced => reading!(16, Row::Fence),
-        Case::Masked => reading!(16, keeping!(15)),
-        Case::MaskedWide => reading!(16, keeping!(31)),
-        Case::FencedPast => reading!(17, Row::Fence),
-        Case::StoredInside => storing!(31),
-        Case::StoredOutside => storing!(32),
+        Case::OpenCard => &[CLEAR, INDEX, BELOW_16, Row::Halt, READ, SHOW, Row::Halt],
+        Case::Fenced => &[
+            CLEAR,
+            INDEX,
+            BELOW_16,
+            Row::Halt,
+            Row::Fence,
+            READ,
+            SHOW,
+            Row::Halt,
+        ],
+        Case::Masked => &[
+            CLEAR,
+            INDEX,
+            BELOW_16,
+            Row::Halt,
+            KEEP_4_BITS,
+            READ,
+            SHOW,
+            Row::Halt,
+        ],
+        Case::MaskedWide => &[
+            CLEAR,
+            INDEX,
+            BELOW_16,
+            Row::Halt,
+            KEEP_5_BITS,
+            READ,
+            SHOW,
+            Row::Halt,
+        ],
+        Case::FencedPast => &[
+            CLEAR,
+            INDEX,
+            BELOW_17,
+            Row::Halt,
+            Row::Fence,
+            READ,
+            SHOW,
+            Row::Halt,
+        ],
+        Case::StoredInside => &[CLEAR, SEALED, STORE_31, Row::Halt],
+        Case::StoredOutside => &[CLEAR, SEALED, STORE_32, Row::Halt],
     }
 }
 

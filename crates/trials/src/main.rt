@@ -23,7 +23,7 @@ fn has_cause(card: &[u8], number: &str) -> anyhow::Result<bool> {
         return Ok(false);
     };
     let cause = refusal.told().cause;
-    Ok(cause.is_some_and(|cause| cause.number() == number))
+    Ok(cause.is_some_and(|cause| u8::from(cause) == number))
 }
 
 // Tries each line of a list: a path, a space and what is expected of that card.
