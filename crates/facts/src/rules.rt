@@ -23,11 +23,13 @@ pub(crate) fn window_of<L: Label>(labels: &[L], base: u32, index: Known<L>) -> W
 fn window_label<L: Label>(labels: &[L], window: Window, label: L) -> L
     ensures { result ≡ join_from L.Label.kind window.words window.base window.width 0 labels.now label }
 {
-    labels
-        .iter()
-        .enumerate()
-        .filter(|(i, _)| window.reaches(*i))
-        .fold(label, |joined, (_, word)| joined.join(*word))
+    let mut joined = label;
+    for (i, word) in labels.iter().enumerate() {
+        if window.reaches(i) {
+            joined = joined.join(*word);
+        }
+    }
+    joined
 }
 
 // What is known after a row, on its way to the next one.

@@ -1,17 +1,38 @@
-use Rattle.std.proofs.Common.{◌∙◌, rules}
-use Rattle.std.proofs.lemmas.Iterator.{YieldsList-from_slice}
-use Rattle.std.proofs.lemmas.Iterator.Consumers.{YieldsList-from_enumerate, YieldsList-from_filter, fold_from_yields_List}
-use borrow.Author.Tests.{tests}
+use Rattle.std.proofs.Common.{◌≡◌, ℕ, ◌+◌, ◌<◌, cond, List, length, get_or, drop, sym, ap, ◌∙◌}
+use Rattle.std.proofs.lemmas.List.{at_drop_more, at_drop_all, get_or_read}
+use Rattle.std.proofs.lemmas.Bool.{cond-true, cond-false}
+use Rattle.labels.specs.Kind.{Kind}
 use Rattle.routine.specs.Address.{in_window}
-use Rattle.facts.proofs.Windows.{joined_words}
+use Rattle.facts.specs.Rules.{join_from}
 use Rattle.facts.proofs.rules.window_label.Goals as goal
+use Rattle.facts.proofs.rules.window_label.Goals.{then-reaches, else-reaches}
+
+-- one label more
+step : {L : Type 0} (K : Kind L) (n base width i : ℕ) (labels : List L) (old new : L) → i < length labels
+    → new ≡ cond (in_window n base width i) (K.join old (get_or labels i old)) old
+    → join_from K n base width (i + 1) (drop (i + 1) labels) new ≡ join_from K n base width i (drop i labels) old
+step K n base width i labels old new within is =
+    ap (join_from K n base width (i + 1) (drop (i + 1) labels)) is
+    ∙ sym (at_drop_more (λ xs. join_from K n base width i xs old) labels i old within)
+
+pub loop-i-preserved : goal.loop-i-preserved
+loop-i-preserved g c =
+    let K = g.L.Label.kind in
+    let labels = c.args.labels.now in
+    let i = c.loop-i.i in
+    let x = get_or labels i c.loop-i.joined in
+    let reached = in_window c.args.window.words c.args.window.base c.args.window.width i in
+    let joined : c.if-reaches.joined ≡ cond reached (K.join c.loop-i.joined x) c.loop-i.joined =
+    elim c.if-reaches.branch [
+      | then-reaches w ↦ w.joined-is ∙ w.join-joined.ensures.value
+          ∙ ap (K.join c.loop-i.joined) (get_or_read labels i _ c.loop-i-test.true c.index-labels-i.is c.loop-i.joined)
+          ∙ sym (cond-true reached _ _ (sym c.reaches.ensures ∙ w.if-reaches.true))
+      | else-reaches w ↦ w.joined-is ∙ sym (cond-false reached _ _ (sym c.reaches.ensures ∙ w.if-reaches.false))
+    ] in
+    step K c.args.window.words c.args.window.base c.args.window.width i labels _ _ c.loop-i-test.true joined ∙ c.loop-i.invariant
 
 pub returns : goal.returns
 returns g c =
-    let K = g.L.Label.kind in
     let labels = c.args.labels.now in
-    fold_from_yields_List _ (λ joined p. K.join joined p.1) c.args.label c.fold.result c.fold.ensures.ran
-    (YieldsList-from_filter _ (λ p. in_window c.args.window.words c.args.window.base c.args.window.width p.0)
-    (YieldsList-from_enumerate (YieldsList-from_slice labels (cc)) (cc)) c.filter.ensures.closure (λ x b q k. search (rules, tests)))
-    (λ a x b q k. search (rules, tests))
-    ∙ joined_words K c.args.window.words c.args.window.base c.args.window.width 0 labels c.args.label
+    sym (at_drop_all (λ xs. join_from g.L.Label.kind c.args.window.words c.args.window.base c.args.window.width c.loop-i.i xs c.loop-i.joined) labels c.loop-i.i c.loop-i-test.false)
+    ∙ c.loop-i.invariant
