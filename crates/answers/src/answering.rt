@@ -24,17 +24,6 @@ fn fill_labels<L: Numbered>(numbers: &[u32], labels: &mut [L])
     }
 }
 
-// The line of the verdict on a routine within the limits.
-fn judged_line<'a, L: Label>(source: &'a Source<'a, L>, reader: L, table: &mut [Fact<L>]) -> Line
-    requires fits { within source.now.rows.now (length source.now.labels.now) (length source.now.labels.now) ≡ true }
-    requires room { 2 * length source.now.rows.now ≤ length table.old }
-    ensures { GivesLineAs L.Label.kind source.now.labels.now source.now.rows.now reader (line_bytes result) }
-{
-    let taken = routine::take(source, source.labels.len());
-    let judged = judging::judge(taken, reader, table);
-    verdict_line(judged.verdict())
-}
-
 // The line of the verdict on rows, with labels and a reader by the numbers that a kind writes for them. The tables of labels and of
 // facts are for working in.
 fn answer_as<L: Numbered>(
@@ -52,7 +41,9 @@ fn answer_as<L: Numbered>(
     let labels = &mut labels[..numbers.len()];
     fill_labels(numbers, labels);
     let source = Source { rows, labels };
-    judged_line(&source, L::from_number(reader), table)
+    let taken = routine::take(&source, numbers.len());
+    let judged = judging::judge(taken, L::from_number(reader), table);
+    verdict_line(judged.verdict())
 }
 
 // The line of the verdict on an accepted card, which was read into these tables.

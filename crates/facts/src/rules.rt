@@ -105,7 +105,7 @@ pub fn known_at_target<L: Label>(
     }
 }
 
-// What a failed test tells on the next row's side.
+// What a failed test tells on the next row's side. The sides are two rules, and share no arm that one function could say once.
 pub fn known_at_next<L: Label>(
     test: Test,
     left: u8,

@@ -20,7 +20,8 @@ pub enum Reason {
     Spill,
 }
 
-// Which leaks a search is for: all, or those that keep a routine from the verdict G.
+// Which leaks a search is for: all, or those that keep a routine from the verdict G. An enum and no closure: the statements of C and
+// of G name it.
 #[derive(Clone, Copy)]
 pub enum Sought {
     AnyLeak,

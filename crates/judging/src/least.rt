@@ -15,7 +15,7 @@ use labels::Label;
 use routine::Taken;
 use routine::rows::Row;
 
-// Where a row's fact in a mode stands.
+// Where a row's fact in a mode stands. The table is handed in as one slice, by rule, with two facts a row.
 fn slot_of(row: usize, mode: Mode) -> usize
     requires { slot row mode < 2 ^ 64 }
     ensures { result ≡ slot row mode }
@@ -36,7 +36,8 @@ pub(crate) fn mode_of(place: usize) -> Mode
     }
 }
 
-// A table that is being filled, and which of its slots are stale.
+// A table that is being filled, and which of its slots are stale. Whatever changes it ensures, as `same`, that its table is still
+// the one that was lent.
 #[derive(Drop)]
 struct Work<'t, L: Label> {
     table: &'t mut [Fact<L>],

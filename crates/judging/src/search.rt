@@ -47,7 +47,7 @@ fn first_leak<L: Label>(
     None
 }
 
-// The verdict under the least closed table.
+// The verdict under the least closed table. That it has two facts a row stands in each contract, for it is lent apart from the rows.
 pub(crate) fn verdict_under<L: Label>(routine: &Taken<L>, reader: L, table: &[Fact<L>]) -> Verdict
     requires { length table.now ≡ 2 * length (rows_of routine.now) }
     ensures { result ≡ verdict_from (first_from L.Label.kind (labels_of routine.now) reader (rows_of routine.now) table.now Sought.AnyLeak 0 (length table.now)) (first_from L.Label.kind (labels_of routine.now) reader (rows_of routine.now) table.now Sought.SpillOrGuessed 0 (length table.now)) }

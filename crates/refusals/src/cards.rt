@@ -74,7 +74,8 @@ pub enum CardRefusal {
     ShortTable,
 }
 
-// What a refusal of a card tells: line and field are 0 where none is to blame, and only a wrong field of a row has a cause.
+// What a refusal of a card tells. Line and field are 0 where none is to blame, no `Option`, for 0 is what is printed then; only a
+// wrong field of a row has a cause.
 #[derive(Clone, Copy)]
 pub struct CardTold {
     pub number: u8,

@@ -52,7 +52,7 @@ impl Refusal {
         }
     }
 
-    // The row that is to blame, 0 where no one row is.
+    // The row that is to blame, 0 where no one row is: no `Option`, for 0 is the place that is told then.
     pub fn place(self) -> usize
         ensures { result ≡ (told self).place }
     {
