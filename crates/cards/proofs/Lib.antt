@@ -1,11 +1,9 @@
 mod Accepting
 mod CardLines
-mod Digits
 mod FieldTexts
 mod Gathering
 mod HeadLines
 mod LineTexts
-mod Names
 mod Numerals
 mod Outcomes
 pub mod Painting

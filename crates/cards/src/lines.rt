@@ -25,12 +25,8 @@ pub(crate) fn is_same(text: &[u8], word: &[u8]) -> bool
 fn cut(text: &[u8], byte: u8) -> Option<(&[u8], &[u8])>
     ensures { elim result [ None ↦ Lacks byte text.now | Some parts ↦ (text.now ≡ parts.0.now ++ byte ∷ parts.1.now) × Lacks byte parts.0.now ] }
 {
-    for (i, x) in text.iter().enumerate() {
-        if *x == byte {
-            return Some((&text[0..i], &text[i + 1..]));
-        }
-    }
-    None
+    let at = text.iter().position(|x| *x == byte)?;
+    Some((&text[..at], &text[at + 1..]))
 }
 
 // The fields of a line, if there are exactly four.

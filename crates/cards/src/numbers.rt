@@ -1,11 +1,8 @@
 // Decimal numbers as cards write them.
-ghost use Rattle.std.specs.Prelude.{◌≡◌, ◌≤◌, min, IfOk, Some, None};
+ghost use Rattle.std.specs.Prelude.{◌≡◌, ◌-◌, ◌^◌, ◌≤◌, min, IfOk, Some, None};
 ghost use Rattle.cards.specs.Numbers.{number_in, plain_in, is_numeral, leads_with_zero, value_of};
 
 use refusals::Cause;
-
-// Above every number that a card may hold.
-const TOO_LARGE: u64 = 1 << 32;
 
 // The number that the text writes, at most the limit.
 pub(crate) fn number(text: &[u8], limit: u32) -> Result<u32, Cause>
@@ -40,21 +37,15 @@ pub(crate) fn plain(text: &[u8], low: u32, high: u32) -> Option<u32>
 fn is_numeral(text: &[u8]) -> bool
     ensures { result ≡ is_numeral text.now }
 {
-    for byte in text {
-        if *byte < b'0' || *byte > b'9' {
-            return false;
-        }
-    }
-    !text.is_empty()
+    !text.is_empty() && text.iter().all(|byte| byte.is_ascii_digit())
 }
 
-// The number that digits write, cut down to one above all limits, so that no number of digits is too many.
+// The number that digits write, cut down to the largest of 64 bits, which is above all limits, so that no number of digits is too many.
 fn capped_value(digits: &[u8]) -> u64
-    ensures { result ≡ min (value_of digits.now) 4294967296 }
+    ensures { result ≡ min (value_of digits.now) (2 ^ 64 - 1) }
 {
-    let mut value = 0u64;
-    for digit in digits {
-        value = (10 * value + u64::from(digit.saturating_sub(b'0'))).min(TOO_LARGE);
-    }
-    value
+    digits.iter().fold(0u64, |value, digit| {
+        let digit = u64::from(digit.saturating_sub(b'0'));
+        value.saturating_mul(10).saturating_add(digit)
+    })
 }

@@ -4,7 +4,6 @@ ghost use Rattle.cards.specs.Fields.{part_of};
 ghost use Rattle.cards.specs.Words.{name_of, operation_name, test_name, all_words, named, word_of};
 
 use crate::fields::{Field, field_of};
-use crate::lines::is_same;
 use routine::rows::{Operation, Test};
 
 // A row's first field says what it does.
@@ -57,12 +56,7 @@ pub(crate) fn word_in(text: &[u8]) -> Option<Word>
 fn word_named(name: &[u8]) -> Option<Word>
     ensures { result ≡ named name.now all_words }
 {
-    for word in WORDS {
-        if is_same(name, word.name()) {
-            return Some(word);
-        }
-    }
-    None
+    WORDS.into_iter().find(|word| name == word.name())
 }
 
 impl Word {

@@ -10,4 +10,4 @@ pub mod taking;
 
 pub use source::Source;
 pub use taken::{Taken, take};
-pub use taking::{MAX_ROWS, MAX_WORDS, check};
+pub use taking::{LAST_REGISTER, LAST_SHIFT, MAX_ROWS, MAX_WORDS, check};

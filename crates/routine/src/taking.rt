@@ -11,9 +11,9 @@ pub const MAX_ROWS: usize = 256;
 
 pub const MAX_WORDS: usize = 4096;
 
-const LAST_REGISTER: u8 = 15;
+pub const LAST_REGISTER: u8 = 15;
 
-const LAST_SHIFT: u32 = 31;
+pub const LAST_SHIFT: u32 = 31;
 
 // Says whether the source can be taken with that many words. The limits are tried in the order of the refusals' numbers.
 pub fn check<L>(source: &Source<L>, words: usize) -> Result<(), Refusal>

@@ -1,18 +1,24 @@
-use Rattle.std.proofs.Common.{◌+◌, ◌-◌, ◌*◌, min, get_or, take, sym, ap, ◌∙◌, ap₂, arith}
-use Rattle.std.proofs.lemmas.List.{take_all}
-use Rattle.cards.specs.Numbers.{value_of}
-use Rattle.cards.proofs.Digits.{value_more, cap_step}
+use Rattle.std.proofs.Common.{◌≡◌, ℕ, List, [], ◌∷◌, ◌+◌, ◌-◌, ◌*◌, ◌^◌, min, refl, sym, ap, ◌∙◌, arith, tests, rules}
+use Rattle.std.specs.List.{fold}
+use Rattle.std.proofs.lemmas.Iterator.{YieldsList-from_slice}
+use Rattle.std.proofs.lemmas.Iterator.Consumers.{fold_from_yields_List}
+use Rattle.cards.specs.Numbers.{onward, value_of}
 use Rattle.cards.proofs.numbers.capped_value.Goals as goal
 
-pub loop-digit-preserved : goal.loop-digit-preserved
-loop-digit-preserved c =
-    let digits = c.args.digits.now in
-    let i = c.loop-digit.digit-index in
-    c.min-value.ensures
-    ∙ ap₂ (λ value digit. min (10 * value + digit) 4294967296) c.loop-digit.invariant (c.from.ensures ∙ c.saturating_sub.ensures)
-    ∙ cap_step (value_of (take i digits)) (get_or digits i 0 - 48) 4294967296
-    ∙ ap (λ value. min value 4294967296) (sym (value_more digits i c.loop-digit-test.true))
+-- one digit more, cut down
+abbrev step : ℕ → ℕ → ℕ
+step value digit = min (min (value * 10) (2 ^ 64 - 1) + (digit - 48)) (2 ^ 64 - 1)
+
+step_cut : (n d : ℕ) → min (min (min n (2 ^ 64 - 1) * 10) (2 ^ 64 - 1) + d) (2 ^ 64 - 1) ≡ min (10 * n + d) (2 ^ 64 - 1)
+step_cut n d = omega arith
+
+-- a number that was cut down grows to one that is cut down
+cut_down : (n : ℕ) (digits : List ℕ) → fold step (min n (2 ^ 64 - 1)) digits ≡ min (onward n digits) (2 ^ 64 - 1)
+cut_down n [] = refl
+cut_down n (d ∷ digits) = ap (λ value. fold step value digits) (step_cut n (d - 48)) ∙ cut_down (10 * n + (d - 48)) digits
 
 pub returns : goal.returns
 returns c =
-    c.loop-digit.invariant ∙ ap (λ digits. min (value_of digits) 4294967296) (take_all c.loop-digit.digit-index c.args.digits.now (omega arith))
+    let digits = c.args.digits.now in
+    fold_from_yields_List _ step 0 c.fold.result c.fold.ensures.ran (YieldsList-from_slice digits cc) (λ a x b q k. search (rules, tests))
+    ∙ cut_down 0 digits

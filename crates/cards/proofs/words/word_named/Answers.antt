@@ -1,23 +1,21 @@
-use Rattle.std.proofs.Common.{sym, ◌∙◌}
-use Rattle.std.proofs.lemmas.List.{at_drop_all}
-use Rattle.std.proofs.lemmas.Bool.{cond-true, cond-false}
-use Rattle.cards.specs.Words.{named, all_words}
-use Rattle.cards.proofs.Names.{named_next}
+use Rattle.std.proofs.Common.{◌≡◌, Bool, sym, ap, ◌∙◌, tests, rules}
+use Rattle.std.specs.Array.Iter.{array_into_iter_items, array_steps}
+use Rattle.std.specs.List.{find}
+use Rattle.std.specs.Str.{bytes_eq}
+use Rattle.std.proofs.lemmas.Iterator.Adapters.{option_map_id}
+use Rattle.std.proofs.lemmas.Iterator.Consumers.{YieldsList-from_shown}
+use Rattle.std.proofs.lemmas.Iterator.Search.{find_from_yields_List}
+use Rattle.cards.specs.declared.words.Word.{Word}
+use Rattle.cards.specs.Words.{name_of, named, all_words}
 use Rattle.cards.proofs.words.word_named.Goals as goal
-
-pub returns-then-is_same : goal.returns-then-is_same
-returns-then-is_same c =
-    sym (named_next c.args.name.now all_words c.loop-word.word-index _ c.name.result.now c.is_same.result
-    c.loop-word-test.true c.name.ensures c.is_same.ensures c.loop-word.invariant
-    ∙ cond-true c.is_same.result _ _ c.if-is_same.true)
-
-pub loop-word-preserved : goal.loop-word-preserved
-loop-word-preserved c =
-    sym (named_next c.args.name.now all_words c.loop-word.word-index _ c.name.result.now c.is_same.result
-    c.loop-word-test.true c.name.ensures c.is_same.ensures c.loop-word.invariant
-    ∙ cond-false c.is_same.result _ _ c.if-is_same.false)
 
 pub returns : goal.returns
 unfolding named
 returns c =
-    sym (sym c.loop-word.invariant ∙ at_drop_all (named c.args.name.now) all_words c.loop-word.word-index c.loop-word-test.false)
+    let named_so : Word → Bool = λ w. bytes_eq c.args.name.now (name_of w) in
+    let items : array_into_iter_items c.into_iter.result ≡ all_words = search rules in
+    sym (option_map_id c.find.result)
+    ∙ find_from_yields_List named_so _ _ c.find.result c.find.ensures.ran
+    (YieldsList-from_shown array_steps (λ w. w) array_into_iter_items (λ s t e. e.0) (λ s x t e. e) c.into_iter.result)
+    (λ x b q k. search (rules, tests))
+    ∙ ap (find named_so) items
