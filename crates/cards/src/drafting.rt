@@ -9,7 +9,7 @@ ghost use Rattle.cards.specs.Drafts.{Drafts, Steps};
 
 use crate::draft::Draft;
 use crate::heads::{Head, Lab, lab_in};
-use crate::lines::{Fields, four_fields, is_same};
+use crate::lines::{Fields, four_fields};
 use crate::rows::row_in;
 use crate::words::{Word, word_in};
 use refusals::{CardRefusal, Refusal};
@@ -109,7 +109,7 @@ impl Draft {
         let Some(fields) = four_fields(line) else {
             return Err(CardRefusal::FieldCount { line: number });
         };
-        if is_same(fields.first, b"lab") {
+        if fields.first == b"lab".as_slice() {
             return self.take_lab(number, &fields);
         }
         let Some(word) = word_in(fields.first) else {

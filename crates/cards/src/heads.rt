@@ -4,7 +4,7 @@ ghost use Rattle.cards.specs.Heads.{kind_named, label_limit, head_in, lab_in};
 ghost use Rattle.cards.specs.Cards.{lab_fits};
 ghost use Rattle.cards.specs.Text.{four_texts};
 
-use crate::lines::{Fields, is_same};
+use crate::lines::Fields;
 use crate::numbers::plain;
 use routine::MAX_WORDS;
 
@@ -46,12 +46,10 @@ fn label_limit(kind: LabelKind) -> u32
 fn kind_named(name: &[u8]) -> Option<LabelKind>
     ensures { result ≡ kind_named name.now }
 {
-    if is_same(name, b"makers") {
-        Some(LabelKind::Makers)
-    } else if is_same(name, b"grade") {
-        Some(LabelKind::Grades)
-    } else {
-        None
+    match name {
+        b"makers" => Some(LabelKind::Makers),
+        b"grade" => Some(LabelKind::Grades),
+        _ => None,
     }
 }
 
@@ -60,7 +58,7 @@ pub(crate) fn head_in(fields: &Fields) -> Result<Head, usize>
     ensures value { result ≡ head_in (four_texts fields.now) }
     ensures bound { IfOk result (λ head. (1 ≤ head.words) × (head.words ≤ 4096)) }
 {
-    if !is_same(fields.first, b"card") {
+    if fields.first != b"card".as_slice() {
         return Err(1);
     }
     let Some(kind) = kind_named(fields.second) else {

@@ -1,6 +1,5 @@
 // A card's lines, and a line's fields.
 ghost use Rattle.std.specs.Prelude.{◌≡◌, ◌+◌, ◌<◌, [], ◌∷◌, ◌++◌, length, Some, None};
-ghost use Rattle.std.specs.Str.{bytes_eq};
 ghost use Rattle.cards.specs.Text.{Lacks, lines_of, fields_of, four_of, four_in, left_in};
 
 use crate::reader::Reader;
@@ -12,13 +11,6 @@ pub(crate) struct Fields<'a> {
     pub second: &'a [u8],
     pub third: &'a [u8],
     pub fourth: &'a [u8],
-}
-
-// Whether the text is just that word.
-pub(crate) fn is_same(text: &[u8], word: &[u8]) -> bool
-    ensures { result ≡ bytes_eq text.now word.now }
-{
-    text == word
 }
 
 // The text before the first such byte and the text after it, if there is such a byte.

@@ -21,7 +21,7 @@ const MAX_CARD: usize = 32768;
 fn fits_extent(text: &[u8]) -> bool
     ensures { result ≡ extent_fits text.now }
 {
-    !text.is_empty() && text.len() <= MAX_CARD && text[text.len() - 1] == b'\n'
+    text.len() <= MAX_CARD && text.ends_with(b"\n")
 }
 
 // The head that the first line writes.
