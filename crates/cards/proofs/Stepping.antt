@@ -1,5 +1,6 @@
 -- What a line adds to a card, way by way.
 use Rattle.std.proofs.Common.{◌≡◌, ℕ, suc, ◌+◌, ◌<◌, true, false, leb, List, ◌∷◌, length, Some, None, Ok, Err, codes, Option, Result, sym, refl, ap, ◌∙◌, subst, add-one}
+use Rattle.std.specs.Option.{ok_or}
 use Rattle.std.specs.Str.{bytes_eq}
 use Rattle.std.proofs.lemmas.Bool.{cond-true, cond-false, lt-leb}
 use Rattle.refusals.specs.declared.cards.CardRefusal.{CardRefusal}
@@ -19,7 +20,7 @@ use Rattle.cards.proofs.Outcomes.{never_ok}
 
 -- the rest of a line, once it is known whether it has four fields
 abbrev on_four : Card → ℕ → Option Four → Result Card CardRefusal
-on_four card n found = and_then (elim found [ None ↦ Err (refusal.FieldCount n) | Some four ↦ Ok four ]) (line_by_word card n)
+on_four card n found = and_then (ok_or found (refusal.FieldCount n)) (line_by_word card n)
 
 -- a row by its word, if it has one
 abbrev on_word : Card → ℕ → Four → Option Word → Result Card CardRefusal

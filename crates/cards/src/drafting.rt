@@ -70,16 +70,9 @@ impl Draft {
                 field: 1,
             });
         }
-        match lab_in(self.head, self.covered, fields) {
-            Ok(lab) => {
-                self.add_lab(lab);
-                Ok(())
-            }
-            Err(field) => Err(CardRefusal::Lab {
-                line: number,
-                field,
-            }),
-        }
+        let lab = lab_in(self.head, self.covered, number, fields)?;
+        self.add_lab(lab);
+        Ok(())
     }
 
     // Takes line `number` as a row.

@@ -6,6 +6,7 @@ ghost use Rattle.cards.specs.Text.{four_texts};
 
 use crate::lines::Fields;
 use crate::numbers::plain;
+use refusals::CardRefusal;
 use routine::MAX_WORDS;
 
 // The kinds of label that a card can name.
@@ -54,22 +55,16 @@ fn kind_named(name: &[u8]) -> Option<LabelKind>
 }
 
 // The head that the fields write, or the first wrong field.
-pub(crate) fn head_in(fields: &Fields) -> Result<Head, usize>
+pub(crate) fn head_in(fields: &Fields) -> Result<Head, CardRefusal>
     ensures value { result ≡ head_in (four_texts fields.now) }
     ensures bound { IfOk result (λ head. (1 ≤ head.words) × (head.words ≤ 4096)) }
 {
     if fields.first != b"card".as_slice() {
-        return Err(1);
+        return Err(CardRefusal::Head { field: 1 });
     }
-    let Some(kind) = kind_named(fields.second) else {
-        return Err(2);
-    };
-    let Some(reader) = plain(fields.third, 0, label_limit(kind)) else {
-        return Err(3);
-    };
-    let Some(words) = plain(fields.fourth, 1, MAX_WORDS as u32) else {
-        return Err(4);
-    };
+    let kind = kind_named(fields.second).ok_or(CardRefusal::Head { field: 2 })?;
+    let reader = plain(fields.third, 0, label_limit(kind)).ok_or(CardRefusal::Head { field: 3 })?;
+    let words = plain(fields.fourth, 1, MAX_WORDS as u32).ok_or(CardRefusal::Head { field: 4 })?;
     Ok(Head {
         kind,
         reader,
@@ -77,20 +72,21 @@ pub(crate) fn head_in(fields: &Fields) -> Result<Head, usize>
     })
 }
 
-// The `lab` line that the fields write after the words before `covered` had theirs, or the first wrong field.
-pub(crate) fn lab_in(head: Head, covered: u32, fields: &Fields) -> Result<Lab, usize>
-    ensures value { result ≡ lab_in head covered (four_texts fields.now) }
+// The `lab` line that the fields of line `line` write after the words before `covered` had theirs, or the first wrong field.
+pub(crate) fn lab_in(
+    head: Head,
+    covered: u32,
+    line: usize,
+    fields: &Fields,
+) -> Result<Lab, CardRefusal>
+    ensures value { result ≡ lab_in head covered line (four_texts fields.now) }
     ensures bound { 1 ≤ head.words → IfOk result (λ lab. lab_fits head covered lab ≡ true) }
 {
     let last = head.words.saturating_sub(1);
-    let Some(from) = plain(fields.second, covered, last) else {
-        return Err(2);
-    };
-    let Some(count) = plain(fields.third, 1, head.words.saturating_sub(from)) else {
-        return Err(3);
-    };
-    let Some(label) = plain(fields.fourth, 0, label_limit(head.kind)) else {
-        return Err(4);
-    };
+    let from = plain(fields.second, covered, last).ok_or(CardRefusal::Lab { line, field: 2 })?;
+    let rest = head.words.saturating_sub(from);
+    let count = plain(fields.third, 1, rest).ok_or(CardRefusal::Lab { line, field: 3 })?;
+    let limit = label_limit(head.kind);
+    let label = plain(fields.fourth, 0, limit).ok_or(CardRefusal::Lab { line, field: 4 })?;
     Ok(Lab { from, count, label })
 }

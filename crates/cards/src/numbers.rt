@@ -27,10 +27,7 @@ pub(crate) fn plain(text: &[u8], low: u32, high: u32) -> Option<u32>
     ensures value { result ≡ plain_in low high text.now }
     ensures bound { elim result [ None ↦ Unit {0} | Some n ↦ (low ≤ n) × (n ≤ high) ] }
 {
-    match number(text, high) {
-        Ok(n) => if low <= n { Some(n) } else { None },
-        Err(_) => None,
-    }
+    number(text, high).ok().filter(|n| low <= *n)
 }
 
 // Whether the text is one or more digits.

@@ -29,13 +29,8 @@ fn head_line(line: &[u8]) -> Result<Head, CardRefusal>
     ensures value { result ≡ head_line line.now }
     ensures bound { IfOk result (λ head. (1 ≤ head.words) × (head.words ≤ 4096)) }
 {
-    let Some(fields) = four_fields(line) else {
-        return Err(CardRefusal::FieldCount { line: 1 });
-    };
-    match head_in(&fields) {
-        Ok(head) => Ok(head),
-        Err(field) => Err(CardRefusal::Head { field }),
-    }
+    let fields = four_fields(line).ok_or(CardRefusal::FieldCount { line: 1 })?;
+    head_in(&fields)
 }
 
 // Takes the lines that are left.
