@@ -21,7 +21,7 @@ use Rattle.cards.specs.Heads.{and_then, head_in, lab_in}
 use Rattle.cards.specs.Cards.{Card, line_text, head_text, lab_text, row_text, written, lab_fits, labs_fit}
 use Rattle.cards.specs.Reading.{covered_from, covered_by, head_only, with_lab, with_row, counted_fields, head_line, lab_line, row_line, line_by_word, line_in, lines_in}
 use Rattle.cards.proofs.Painting.{covered_push}
-use Rattle.cards.proofs.Stepping.{row_taken}
+use Rattle.cards.proofs.Stepping.{lab_taken, row_taken}
 use Rattle.cards.proofs.Outcomes.{same_ok, passed, passed_not, then_steps, mapped, map_step, found, there}
 use Rattle.cards.proofs.RowLines.{ClearFour, Fitting, word_in, word_sound, name_read, row_name, row_sound, row_complete}
 use Rattle.cards.proofs.LineTexts.{ended_by, bare, fields_rejoined, fields_found, line_found}
@@ -165,7 +165,7 @@ made_of head labs rows = record { head = head; labs = labs; rows = rows }
 lab_read : (card : Card) (n : ℕ) (lab : Lab) → card.rows ≡ [] → lab_in card.head (covered_by card.labs) n (lab_text lab) ≡ Ok lab
     → line_by_word card n (lab_text lab) ≡ Ok (with_lab card lab)
 lab_read card n lab none read =
-    cond-true _ _ _ (ap (λ rows. eqb (length rows) 0) none) ∙ ap (λ read. map_ok read (with_lab card)) read
+    lab_taken card n (lab_text lab) lab (ap length none) read
 
 row_read : (card : Card) (n : ℕ) (row : Row) → length card.rows < 256 → row_in card.head.words (word_in row) (row_text row) ≡ Ok row
     → line_by_word card n (row_text row) ≡ Ok (with_row card row)

@@ -2,7 +2,7 @@
 use Rattle.std.proofs.Common.{◌≡◌, ℕ, suc, ◌+◌, ◌<◌, true, false, leb, List, ◌∷◌, length, Some, None, Ok, Err, codes, Option, Result, sym, refl, ap, ◌∙◌, subst, add-one}
 use Rattle.std.specs.Option.{ok_or}
 use Rattle.std.specs.Str.{bytes_eq}
-use Rattle.std.proofs.lemmas.Bool.{cond-true, cond-false, lt-leb}
+use Rattle.std.proofs.lemmas.Bool.{cond-true, cond-false, eq-eqb, lt-leb}
 use Rattle.refusals.specs.declared.cards.CardRefusal.{CardRefusal}
 use Rattle.refusals.specs.declared.cards.CardRefusal.TheVariants as refusal
 use Rattle.cards.specs.declared.words.Word.{Word}
@@ -11,10 +11,11 @@ use Rattle.cards.specs.Fields.{part_of}
 use Rattle.cards.specs.Words.{word_of}
 use Rattle.cards.specs.declared.draft.Draft.{Draft}
 use Rattle.cards.specs.Drafts.{Drafts, Steps}
-use Rattle.cards.specs.Heads.{and_then}
+use Rattle.cards.specs.declared.heads.Lab.{Lab}
+use Rattle.cards.specs.Heads.{and_then, lab_in}
 use Rattle.cards.specs.Cards.{Card}
-use Rattle.cards.specs.Reading.{lab_line, row_line, line_by_word, line_in, lines_in, with_row}
-use Rattle.cards.specs.Rows.{row_in}
+use Rattle.cards.specs.Reading.{covered_by, with_lab, with_row, lab_line, row_line, line_by_word, line_in, lines_in}
+use Rattle.cards.specs.Rows.{map_ok, row_in}
 use Rattle.routine.specs.declared.rows.Row.{Row}
 use Rattle.cards.proofs.Outcomes.{never_ok}
 
@@ -51,6 +52,11 @@ module _ (card : Card) (n : ℕ) (line : List ℕ) where
 pub steps_by : (draft : Draft) (r : Result (Unit {0}) CardRefusal) {step rule : Result Card CardRefusal} → step ≡ rule → Steps rule draft r
     → Steps step draft r
 steps_by draft r same steps = subst (λ s. Steps s draft r) (sym same) steps
+
+-- a `lab` line before all rows is added
+pub lab_taken : (card : Card) (n : ℕ) (four : Four) (lab : Lab) → length card.rows ≡ 0 → lab_in card.head (covered_by card.labs) n four ≡ Ok lab
+    → lab_line card n four ≡ Ok (with_lab card lab)
+lab_taken card n four lab none is = cond-true _ _ _ (eq-eqb (length card.rows) 0 none) ∙ ap (λ read. map_ok read (with_lab card)) is
 
 -- a row that is not the 257th is added
 pub row_taken : (card : Card) (n : ℕ) (word : Word) (four : Four) (row : Row) → length card.rows < 256

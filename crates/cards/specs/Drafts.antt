@@ -11,8 +11,7 @@ pub record Drafts (draft : Draft) (card : Card) : Type 0 where
   pub labs : draft.labs ≡ length card.labs
   pub covered : draft.covered ≡ covered_by card.labs
   pub labels : (i : ℕ) → i < 4096 → slice_index draft.labels i ≡ label_at card.labs i
-  pub count : draft.count ≡ length card.rows
-  pub rows : take draft.count draft.rows ≡ card.rows
+  pub rows : draft.rows.items ≡ card.rows
 
 -- a step of reading: the draft is of the next card, or the refusal is told
 abbrev pub Steps : Result Card CardRefusal → Draft → Result (Unit {0}) CardRefusal → Type 0

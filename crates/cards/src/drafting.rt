@@ -1,77 +1,52 @@
 // Reading a card into a draft, line by line.
-ghost use Rattle.std.specs.Prelude.{◌≡◌, ℕ, ◌+◌, ◌<◌, ◌≤◌, true, ◌&&◌, length, take, if◌then◌else◌, Err, nat_le, nat_lt, slice_index};
-ghost use Rattle.routine.specs.Limits.{fields_fit, DeclinedBy};
+ghost use Rattle.std.specs.Prelude.{◌≡◌, IfOk};
 ghost use Rattle.cards.specs.Text.{four_texts};
-ghost use Rattle.cards.specs.Cards.{Card, lab_fits};
-ghost use Rattle.cards.specs.Reading.{head_only, whole_in, with_lab, with_row, lab_line, row_line, line_in};
+ghost use Rattle.cards.specs.Cards.{Card};
+ghost use Rattle.cards.specs.Reading.{head_line, head_only, whole_in, lab_line, row_line, line_in};
 ghost use Rattle.cards.specs.Rows.{map_ok};
 ghost use Rattle.cards.specs.Drafts.{Drafts, Steps};
 
 use crate::draft::Draft;
-use crate::heads::{Head, Lab, lab_in};
+use crate::heads::{head_in, lab_in};
 use crate::lines::{Fields, four_fields};
 use crate::rows::row_in;
 use crate::words::{Word, word_in};
+use arrayvec::ArrayVec;
 use refusals::{CardRefusal, Refusal};
-use routine::rows::Row;
-use routine::{MAX_ROWS, MAX_WORDS, Source, check};
-
-// Gives the label to the words from `from` up to `to`.
-fn paint(labels: &mut [u32], from: usize, to: usize, label: u32)
-    requires { (from ≤ to) × (to ≤ length labels.old) }
-    ensures { (k : ℕ) → slice_index labels.new k ≡ (if nat_le from k && nat_lt k to then label else slice_index labels.old k) }
-{
-    for i in from..to {
-        labels[i] = label;
-    }
-}
+use routine::{MAX_WORDS, Source, check};
 
 impl Draft {
-    // Only the head was read.
-    pub(crate) fn new(head: Head) -> Draft
-        requires { (1 ≤ head.words) × (head.words ≤ 4096) }
-        ensures { Drafts result (head_only head) }
+    // The draft of a card of which only the head was read, from its first line.
+    pub(crate) fn begin(line: &[u8]) -> Result<Draft, CardRefusal>
+        ensures head { map_ok result (λ draft. draft.head) ≡ head_line line.now }
+        ensures card { IfOk result (λ draft. Drafts draft (head_only draft.head)) }
     {
-        Draft {
+        let fields = four_fields(line).ok_or(CardRefusal::FieldCount { line: 1 })?;
+        let head = head_in(&fields)?;
+        Ok(Draft {
             head,
             labs: 0,
             covered: 0,
             labels: [0; MAX_WORDS],
-            rows: [Row::Halt; MAX_ROWS],
-            count: 0,
-        }
-    }
-
-    fn add_lab(&mut self, lab: Lab)
-        requires { lab_fits self.old.head self.old.covered lab ≡ true }
-        ensures { (card : Card) → Drafts self.old card → Drafts self.new (with_lab card lab) }
-    {
-        let end = lab.from + lab.count;
-        paint(&mut self.labels, lab.from as usize, end as usize, lab.label);
-        self.covered = end;
-        self.labs += 1;
-    }
-
-    fn add_row(&mut self, row: Row)
-        requires { (self.old.count < 256) × (fields_fit self.old.head.words row ≡ true) }
-        ensures { (card : Card) → Drafts self.old card → Drafts self.new (with_row card row) }
-    {
-        self.rows[self.count] = row;
-        self.count += 1;
+            rows: ArrayVec::new(),
+        })
     }
 
     // Takes line `number` as a `lab` line.
     fn take_lab(&mut self, number: usize, fields: &Fields) -> Result<(), CardRefusal>
         ensures { (card : Card) → Drafts self.old card → Steps (lab_line card number (four_texts fields.now)) self.new result }
     {
-        if self.count != 0 {
+        if !self.rows.is_empty() {
             return Err(CardRefusal::Lab {
                 line: number,
                 field: 1,
             });
         }
         let lab = lab_in(self.head, self.covered, number, fields)?;
-        self.add_lab(lab);
+        let end = lab.from + lab.count;
+        self.labels[lab.from as usize..end as usize].fill(lab.label);
+        self.covered = end;
+        self.labs += 1;
         Ok(())
     }
 
@@ -79,20 +54,16 @@ impl Draft {
     fn take_row(&mut self, number: usize, word: Word, fields: &Fields) -> Result<(), CardRefusal>
         ensures { (card : Card) → Drafts self.old card → Steps (row_line card number word (four_texts fields.now)) self.new result }
     {
-        if self.count >= MAX_ROWS {
+        if self.rows.is_full() {
             return Err(CardRefusal::ExtraRow { line: number });
         }
-        match row_in(self.head.words, word, fields) {
-            Ok(row) => {
-                self.add_row(row);
-                Ok(())
-            }
-            Err(fault) => Err(CardRefusal::RowField {
-                line: number,
-                field: fault.field,
-                cause: fault.cause,
-            }),
-        }
+        let row = row_in(self.head.words, word, fields).map_err(|fault| CardRefusal::RowField {
+            line: number,
+            field: fault.field,
+            cause: fault.cause,
+        })?;
+        self.rows.push(row);
+        Ok(())
     }
 
     // Takes line `number`, which is not the head.
@@ -117,30 +88,23 @@ impl Draft {
     {
         let words = self.head.words as usize;
         let source = Source {
-            rows: &self.rows[0..self.count],
-            labels: &self.labels[0..words],
+            rows: self.rows.as_slice(),
+            labels: &self.labels[..words],
         };
+        // The head and the `lab` lines come before all rows.
+        let first = self.labs as usize + 2;
         match check(&source, words) {
             Ok(()) => Ok(()),
-            Err(refusal) => Err(self.on_card(refusal)),
-        }
-    }
-
-    // The refusal of the routine, by the line of the row that is to blame.
-    fn on_card(&self, refusal: Refusal) -> CardRefusal
-        requires { DeclinedBy (take self.now.count self.now.rows) self.now.head.words self.now.head.words refusal }
-        ensures { (card : Card) → Drafts self.now card → whole_in card ≡ Err result }
-    {
-        let first = self.labs as usize + 2;
-        match refusal {
-            Refusal::RowCount => CardRefusal::NoRow,
-            Refusal::Target { row } => CardRefusal::Target { line: first + row },
-            Refusal::Ending { row } => CardRefusal::Ending { line: first + row },
-            // Every field was read within its limit.
-            Refusal::WordCount
-            | Refusal::RowField { row: _ }
-            | Refusal::WorkTable
-            | Refusal::GradeRange => unreachable(),
+            Err(refusal) => match refusal {
+                Refusal::RowCount => Err(CardRefusal::NoRow),
+                Refusal::Target { row } => Err(CardRefusal::Target { line: first + row }),
+                Refusal::Ending { row } => Err(CardRefusal::Ending { line: first + row }),
+                // Every field was read within its limit.
+                Refusal::WordCount
+                | Refusal::RowField { row: _ }
+                | Refusal::WorkTable
+                | Refusal::GradeRange => unreachable(),
+            },
         }
     }
 }

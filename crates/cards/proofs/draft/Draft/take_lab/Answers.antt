@@ -1,4 +1,34 @@
+use Rattle.std.proofs.Common.{◌≡◌, ◌+◌, ◌-◌, ◌≤◌, true, cond, length, replicate, Ok, sym, refl, ap, ◌∙◌, ap₂, arith, rules}
+use Rattle.std.proofs.lemmas.Bool.Decides.{nat_tests}
+use Rattle.std.proofs.lemmas.List.{length_push}
+use Rattle.cards.specs.Text.{four_texts}
+use Rattle.cards.specs.Heads.{lab_in}
+use Rattle.cards.specs.Cards.{covers, lab_fits}
+use Rattle.cards.specs.Reading.{covered_by}
+use Rattle.cards.proofs.Painting.{painted, label_push, covered_push}
+use Rattle.cards.proofs.Stepping.{steps_by, lab_taken}
 use Rattle.cards.proofs.draft.Draft.take_lab.Goals as goal
 
-pub add_lab-requires : goal.add_lab-requires
-add_lab-requires c = c.in_ok-lab.ensures.bound c.args.self.now.some
+pub returns : goal.returns
+returns c = λ card drafts.
+    let self = c.args.self.now in
+    let four = four_texts c.args.fields.now in
+    let lab = c.in_ok-lab.lab in
+    let none : length card.rows ≡ 0 = grind (arith, nat_tests, ap length drafts.rows, c.is_empty.ensures, c.if-not-is_empty.false) in
+    let read : lab_in card.head (covered_by card.labs) c.args.number four ≡ Ok lab =
+    ap₂ (λ head covered. lab_in head covered c.args.number four) (sym drafts.head) (sym drafts.covered) ∙ sym c.in_ok-lab.ensures.value in
+    let fits : lab_fits self.head self.covered lab ≡ true = c.in_ok-lab.ensures.bound self.some in
+    let inside : lab.from + lab.count ≤ length self.labels = grind (arith, nat_tests) in
+    steps_by _ (Ok tt) (lab_taken card c.args.number four lab none read) (
+      refl,
+      record {
+        head = drafts.head;
+        some = drafts.some;
+        labs = ap (λ n. n + 1) drafts.labs ∙ sym (length_push card.labs lab);
+        covered = sym (covered_push 0 card.labs lab);
+        labels = λ i below.
+            painted self.labels c.fill.new.self lab.from (lab.from + lab.count) lab.label (omega arith) inside (c.fill.ensures.after (λ y same. same)) i
+            ∙ ap (cond (covers lab i) lab.label) (drafts.labels i below) ∙ sym (label_push 0 card.labs lab i);
+        rows = drafts.rows;
+      },
+    )
