@@ -16,7 +16,7 @@ use Rattle.cards.specs.declared.words.Word.{Word}
 use Rattle.cards.specs.Text.{Four, split, lines_of, fields_of, four_of}
 use Rattle.cards.specs.Fields.{part_of}
 use Rattle.cards.specs.Words.{name_of, word_of}
-use Rattle.cards.specs.Rows.{map_ok, row_in}
+use Rattle.cards.specs.Rows.{row_in}
 use Rattle.cards.specs.Heads.{and_then, head_in, lab_in}
 use Rattle.cards.specs.Cards.{Card, line_text, head_text, lab_text, row_text, written, lab_fits, labs_fit}
 use Rattle.cards.specs.Reading.{covered_from, covered_by, head_only, with_lab, with_row, counted_fields, head_line, lab_line, row_line, line_by_word, line_in, lines_in}

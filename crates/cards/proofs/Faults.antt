@@ -9,7 +9,6 @@ use Rattle.refusals.specs.ToldOfCards.{told_of}
 use Rattle.routine.specs.declared.rows.Row.{Row}
 use Rattle.routine.specs.Limits.{target_fits, last_ends}
 use Rattle.cards.specs.declared.heads.Head.{Head}
-use Rattle.cards.specs.declared.heads.Lab.{Lab}
 use Rattle.cards.specs.declared.rows.Fault.{Fault}
 use Rattle.cards.specs.declared.words.Word.{Word}
 use Rattle.cards.specs.Text.{Four, lines_of, fields_of, four_of}

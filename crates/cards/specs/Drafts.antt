@@ -1,5 +1,5 @@
 -- The code's draft of a card, by the card that it stands for.
-use Rattle.std.specs.Prelude.{◌≡◌, ℕ, ◌<◌, ◌≤◌, length, take, Ok, Err, Result, slice_index}
+use Rattle.std.specs.Prelude.{◌≡◌, ℕ, ◌<◌, ◌≤◌, length, Ok, Err, Result, slice_index}
 use Rattle.refusals.specs.declared.cards.CardRefusal.{CardRefusal}
 use Rattle.cards.specs.declared.draft.Draft.{Draft}
 use Rattle.cards.specs.Cards.{Card, label_at}
