@@ -34,6 +34,10 @@ pub there : {A E : Type 0} (e : E) (o : Option A) (x : A) → ok_or o e ≡ Ok x
 there e None x is = never_ok _ e x is
 there e (Some y) x is = cc
 
+pub not_there : {A E : Type 0} (e d : E) (o : Option A) → ok_or o e ≡ Err d → (o ≡ None) × (e ≡ d)
+not_there e d None is = (refl, cc)
+not_there e d (Some x) is = never_ok _ _ _ (sym is)
+
 pub there_then : {A B E : Type 0} (e : E) (o : Option A) (x : A) (next : A → Result B E) → o ≡ Some x → and_then (ok_or o e) next ≡ next x
 there_then e o x next is = ap (λ o. and_then (ok_or o e) next) is
 

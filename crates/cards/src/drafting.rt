@@ -21,7 +21,7 @@ impl Draft {
         ensures head { map_ok result (λ draft. draft.head) ≡ head_line line.now }
         ensures card { IfOk result (λ draft. Drafts draft (head_only draft.head)) }
     {
-        let fields = four_fields(line).ok_or(CardRefusal::FieldCount { line: 1 })?;
+        let fields = four_fields(1, line)?;
         let head = head_in(&fields)?;
         Ok(Draft {
             head,
@@ -32,17 +32,17 @@ impl Draft {
         })
     }
 
-    // Takes line `number` as a `lab` line.
-    fn take_lab(&mut self, number: usize, fields: &Fields) -> Result<(), CardRefusal>
-        ensures { (card : Card) → Drafts self.old card → Steps (lab_line card number (four_texts fields.now)) self.new result }
+    // Takes a line as a `lab` line.
+    fn take_lab(&mut self, fields: &Fields) -> Result<(), CardRefusal>
+        ensures { (card : Card) → Drafts self.old card → Steps (lab_line card fields.now.line (four_texts fields.now)) self.new result }
     {
         if !self.rows.is_empty() {
             return Err(CardRefusal::Lab {
-                line: number,
+                line: fields.line,
                 field: 1,
             });
         }
-        let lab = lab_in(self.head, self.covered, number, fields)?;
+        let lab = lab_in(self.head, self.covered, fields)?;
         let end = lab.from + lab.count;
         self.labels[lab.from as usize..end as usize].fill(lab.label);
         self.covered = end;
@@ -50,15 +50,16 @@ impl Draft {
         Ok(())
     }
 
-    // Takes line `number` as a row.
-    fn take_row(&mut self, number: usize, word: Word, fields: &Fields) -> Result<(), CardRefusal>
-        ensures { (card : Card) → Drafts self.old card → Steps (row_line card number word (four_texts fields.now)) self.new result }
+    // Takes a line as a row.
+    fn take_row(&mut self, word: Word, fields: &Fields) -> Result<(), CardRefusal>
+        ensures { (card : Card) → Drafts self.old card → Steps (row_line card fields.now.line word (four_texts fields.now)) self.new result }
     {
+        let line = fields.line;
         if self.rows.is_full() {
-            return Err(CardRefusal::ExtraRow { line: number });
+            return Err(CardRefusal::ExtraRow { line });
         }
         let row = row_in(self.head.words, word, fields).map_err(|fault| CardRefusal::RowField {
-            line: number,
+            line,
             field: fault.field,
             cause: fault.cause,
         })?;
@@ -66,20 +67,16 @@ impl Draft {
         Ok(())
     }
 
-    // Takes line `number`, which is not the head.
-    pub(crate) fn take_line(&mut self, number: usize, line: &[u8]) -> Result<(), CardRefusal>
-        ensures { (card : Card) → Drafts self.old card → Steps (line_in card number line.now) self.new result }
+    // Takes line `line`, which is not the head.
+    pub(crate) fn take_line(&mut self, line: usize, text: &[u8]) -> Result<(), CardRefusal>
+        ensures { (card : Card) → Drafts self.old card → Steps (line_in card line text.now) self.new result }
     {
-        let Some(fields) = four_fields(line) else {
-            return Err(CardRefusal::FieldCount { line: number });
-        };
+        let fields = four_fields(line, text)?;
         if fields.first == b"lab".as_slice() {
-            return self.take_lab(number, &fields);
+            return self.take_lab(&fields);
         }
-        let Some(word) = word_in(fields.first) else {
-            return Err(CardRefusal::UnknownWord { line: number });
-        };
-        self.take_row(number, word, &fields)
+        let word = word_in(fields.first).ok_or(CardRefusal::UnknownWord { line })?;
+        self.take_row(word, &fields)
     }
 
     // The routine as a whole: what only all rows together can tell.

@@ -72,16 +72,12 @@ pub(crate) fn head_in(fields: &Fields) -> Result<Head, CardRefusal>
     })
 }
 
-// The `lab` line that the fields of line `line` write after the words before `covered` had theirs, or the first wrong field.
-pub(crate) fn lab_in(
-    head: Head,
-    covered: u32,
-    line: usize,
-    fields: &Fields,
-) -> Result<Lab, CardRefusal>
-    ensures value { result ≡ lab_in head covered line (four_texts fields.now) }
+// The `lab` line that the fields write after the words before `covered` had theirs, or the first wrong field.
+pub(crate) fn lab_in(head: Head, covered: u32, fields: &Fields) -> Result<Lab, CardRefusal>
+    ensures value { result ≡ lab_in head covered fields.now.line (four_texts fields.now) }
     ensures bound { 1 ≤ head.words → IfOk result (λ lab. lab_fits head covered lab ≡ true) }
 {
+    let line = fields.line;
     let last = head.words.saturating_sub(1);
     let from = plain(fields.second, covered, last).ok_or(CardRefusal::Lab { line, field: 2 })?;
     let rest = head.words.saturating_sub(from);

@@ -66,7 +66,7 @@ returns c = λ card drafts.
     let read : row_in card.head.words c.args.word four ≡ Ok row =
     ap (λ head. row_in head.words c.args.word four) (sym drafts.head) ∙ row_is (goal.at.returns c).In_ok-row in
     let few : length card.rows < 256 = grind (arith, nat_tests, ap length drafts.rows) in
-    steps_by _ (Ok tt) (row_taken card c.args.number c.args.word four row few read) (
+    steps_by _ (Ok tt) (row_taken card c.args.fields.now.line c.args.word four row few read) (
       refl,
       record {
         head = drafts.head;
