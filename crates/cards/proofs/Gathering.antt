@@ -46,10 +46,10 @@ module _ (text first : List ℕ) (rest : List (List ℕ)) (long : extent_fits te
       pub whole_refused : (e : CardRefusal) → map_ok (whole_in card) (λ _. tt {0}) ≡ Err e → read_card text ≡ Err e
       whole_refused e is = read_lines ∙ ap (λ r. and_then r whole_in) read ∙ map_err (whole_in card) (λ _. tt {0}) e is
 
-      pub whole_accepted : length card.rows ≤ 256 → map_ok (whole_in card) (λ _. tt {0}) ≡ Ok tt → read_card text ≡ Ok card
-      whole_accepted few is =
+      pub whole_accepted : map_ok (whole_in card) (λ _. tt {0}) ≡ Ok tt → read_card text ≡ Ok card
+      whole_accepted is =
           let (other, ok, _) = map_step (whole_in card) (λ _. tt {0}) tt is in
-          read_lines ∙ ap (λ r. and_then r whole_in) read ∙ ok ∙ ap Ok (sym (whole_sound card other few ok).0)
+          read_lines ∙ ap (λ r. and_then r whole_in) read ∙ ok ∙ ap Ok (sym (whole_sound card other ok).0)
 
 -- a table of which a part from the start was written
 laid : {X : Type 0} (n : ℕ) (table written list : List X) → written ≡ list → n ≡ length list → written ++ drop n table ≡ overlaid list table

@@ -63,9 +63,9 @@ card_sound (first ∷ rest) card is =
     let (last, last-is, then-b) = then_steps (lines_in (head_only head) 2 rest) whole_in card then-a in
     let (head-text, head-fits) = head_line_sound first head head-is in
     let (fits, text) = lines_sound (head_only head) (record { head = head-fits; labs = refl; rows = tt; count = omega arith }) 2 rest last last-is in
-    let (same, whole) = whole_sound last card fits.count then-b in
+    let (same, whole) = whole_sound last card then-b in
     subst (λ card. Fits card × Whole card.rows × (written card ≡ flat_map (ended_by 10) (first ∷ rest))) same
-    (fits, whole, text ∙ ap (λ t. t ++ flat_map (ended_by 10) rest) (written_head head ∙ head-text))
+    (fits, whole fits.count, text ∙ ap (λ t. t ++ flat_map (ended_by 10) rest) (written_head head ∙ head-text))
 
 well_formed : (card : Card) → Fits card → Whole card.rows → length (written card) ≤ 32768 → WellFormed card
 well_formed card fits whole short =

@@ -102,8 +102,8 @@ module _ (card : Card) where
 pub whole_ok : (card : Card) → Whole card.rows → whole_in card ≡ Ok card
 whole_ok card whole = whole_ends card whole.count whole.targets whole.last
 
-pub whole_sound : (card read : Card) → length card.rows ≤ 256 → whole_in card ≡ Ok read → (card ≡ read) × Whole card.rows
-whole_sound card read few is =
+pub whole_sound : (card read : Card) → whole_in card ≡ Ok read → (card ≡ read) × (length card.rows ≤ 256 → Whole card.rows)
+whole_sound card read is =
     let rows = card.rows in
     let (some, then-a) = passed_not (eqb (length rows) 0) _ _ read is in
     let (none, then-b) = not_found (λ i. refusal.Target (line_of_row card i)) _ (first_failing (target_fits (length rows)) 0 rows) read then-a in
@@ -111,9 +111,10 @@ whole_sound card read few is =
     let not-empty = eqb-false (length rows) 0 some in
     let at_least : 1 ≤ length rows = omega arith in (
       same_ok card read then-c,
-      record {
-        count = and_from _ _ (le-leb 1 (length rows) at_least) (le-leb (length rows) 256 few);
-        targets = every_from (target_fits (length rows)) rows (λ j h. rw zero-add at (each_passes (target_fits (length rows)) 0 rows none j h));
-        last = last;
-      },
+      λ few.
+          record {
+            count = and_from _ _ (le-leb 1 (length rows) at_least) (le-leb (length rows) 256 few);
+            targets = every_from (target_fits (length rows)) rows (λ j h. rw zero-add at (each_passes (target_fits (length rows)) 0 rows none j h));
+            last = last;
+          },
     )

@@ -1,5 +1,5 @@
 -- The code's draft of a card, by the card that it stands for.
-use Rattle.std.specs.Prelude.{◌≡◌, ℕ, ◌<◌, ◌≤◌, length, Ok, Err, Result, slice_index}
+use Rattle.std.specs.Prelude.{◌≡◌, ℕ, ◌<◌, length, Ok, Err, Result, slice_index}
 use Rattle.refusals.specs.declared.cards.CardRefusal.{CardRefusal}
 use Rattle.cards.specs.declared.draft.Draft.{Draft}
 use Rattle.cards.specs.Cards.{Card, label_at}
@@ -7,7 +7,6 @@ use Rattle.cards.specs.Reading.{covered_by}
 
 pub record Drafts (draft : Draft) (card : Card) : Type 0 where
   pub head : draft.head ≡ card.head
-  pub some : 1 ≤ card.head.words
   pub labs : draft.labs ≡ length card.labs
   pub covered : draft.covered ≡ covered_by card.labs
   pub labels : (i : ℕ) → i < 4096 → slice_index draft.labels i ≡ label_at card.labs i

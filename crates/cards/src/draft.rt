@@ -1,6 +1,5 @@
 // What was read of a card so far.
 ghost use Rattle.std.specs.Prelude.{◌≡◌, ◌≤◌, true};
-ghost use Rattle.arrayvec.specs.ArrayVec.{array_vec_len};
 ghost use Rattle.routine.specs.Limits.{every_field_fits};
 
 use crate::heads::Head;
@@ -19,7 +18,6 @@ pub(crate) struct Draft {
     pub rows: ArrayVec<Row, MAX_ROWS>,
     ghost some: { 1 ≤ head.words },
     ghost small: { head.words ≤ 4096 },
-    ghost few: { array_vec_len rows ≤ 256 },
     ghost fits: { every_field_fits rows.items head.words ≡ true },
     // each `lab` line covers a word at least
     ghost counted: { labs ≤ covered },

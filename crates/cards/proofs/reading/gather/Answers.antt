@@ -1,4 +1,4 @@
-use Rattle.std.proofs.Common.{◌≡◌, ◌+◌, ◌∷◌, length, Ok, Err, Result, sym, refl, ap, ◌∙◌, subst, arith}
+use Rattle.std.proofs.Common.{◌≡◌, ◌+◌, ◌∷◌, Ok, Err, Result, sym, refl, ap, ◌∙◌, subst, arith}
 use Rattle.std.proofs.lemmas.Result.{err_from_is_err_and}
 use Rattle.refusals.specs.declared.cards.CardRefusal.{CardRefusal}
 use Rattle.cards.specs.Text.{lines_of, left_in}
@@ -64,6 +64,6 @@ returns c =
     let (card, read, drafts) = took (rest_read at.After-take_lines) draft c.take_lines.result (rest_steps at.After-take_lines) c.in_ok-take_lines.was in
     gathers_by (Ok draft)
     (whole_accepted c.args.text.now c.in-Some.first.now _ (sym c.if-not-fits_extent.ensures) (lines_are at.In-Some)
-    c.in_ok-draft.draft.head (sym c.in_ok-draft.ensures.head) card read (omega (arith, ap length drafts.rows, draft.few))
+    c.in_ok-draft.draft.head (sym c.in_ok-draft.ensures.head) card read
     (sym (c.in_ok-check_whole.ensures card drafts)))
     drafts

@@ -1,4 +1,4 @@
-use Rattle.std.proofs.Common.{length, refl, ap, arith}
+use Rattle.std.proofs.Common.{refl, ap, arith}
 use Rattle.std.proofs.lemmas.List.{get_or-replicate}
 use Rattle.routine.specs.Limits.{every, every_field_fits}
 use Rattle.cards.proofs.draft.Draft.begin.Goals as goal
@@ -10,7 +10,6 @@ invariant_of-result c =
     record {
       some = c.in_ok-head.ensures.bound.0;
       small = c.in_ok-head.ensures.bound.1;
-      few = omega (arith, ap length c.new.ensures);
       fits = ap (λ rows. every_field_fits rows head.words) c.new.ensures;
       counted = omega arith;
       inside = omega arith;
@@ -19,7 +18,6 @@ invariant_of-result c =
 pub returns-clause-card : goal.returns-clause-card
 returns-clause-card c = record {
   head = refl;
-  some = c.in_ok-head.ensures.bound.0;
   labs = refl;
   covered = refl;
   labels = λ i inside. get_or-replicate 4096 i 0 0 inside;

@@ -23,7 +23,6 @@ returns c = λ card drafts.
       refl,
       record {
         head = drafts.head;
-        some = drafts.some;
         labs = ap (λ n. n + 1) drafts.labs ∙ sym (length_push card.labs lab);
         covered = sym (covered_push 0 card.labs lab);
         labels = λ i below.

@@ -51,7 +51,6 @@ invariant_of-self c =
     record {
       some = self.some;
       small = self.small;
-      few = grind (arith, nat_tests);
       fits =
           ap (λ rows. every_field_fits rows self.head.words) c.push.ensures.items
           ∙ every_push (λ _ r. fields_fit self.head.words r) self.rows.items row self.fits within;
@@ -70,7 +69,6 @@ returns c = λ card drafts.
       refl,
       record {
         head = drafts.head;
-        some = drafts.some;
         labs = drafts.labs;
         covered = drafts.covered;
         labels = drafts.labels;
