@@ -7,7 +7,6 @@ mod LineTexts
 mod Numerals
 mod Outcomes
 pub mod Painting
-mod Parts
 mod RowLines
 mod Splits
 mod Stepping

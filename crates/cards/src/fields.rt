@@ -22,6 +22,7 @@ pub(crate) enum Field<'a> {
 }
 
 // What a field is, before it is known which place it stands in.
+#[tactic(auto, using(std::proofs::lemmas::Slice::first_rest))]
 pub(crate) fn field_of(text: &[u8]) -> Field<'_>
     ensures { part_in result ≡ part_of text.now }
 {

@@ -5,6 +5,7 @@ ghost use Rattle.cards.specs.Numbers.{number_in, plain_in, is_numeral, leads_wit
 use refusals::Cause;
 
 // The number that the text writes, at most the limit.
+#[tactic(auto, unfolding(crate::specs::Numbers::number_in))]
 pub(crate) fn number(text: &[u8], limit: u32) -> Result<u32, Cause>
     ensures value { result ≡ number_in limit text.now }
     ensures bound { IfOk result (λ n. n ≤ limit) }
