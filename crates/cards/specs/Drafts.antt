@@ -17,6 +17,10 @@ abbrev pub Steps : Result Card CardRefusal → Draft → Result (Unit {0}) CardR
 Steps (Ok next) draft r = (r ≡ Ok tt) × Drafts draft next
 Steps (Err refusal) draft r = r ≡ Err refusal
 
+-- from the draft of whatever card, a step of reading goes on
+abbrev pub Takes : (Card → Result Card CardRefusal) → Draft → Draft → Result (Unit {0}) CardRefusal → Type 0
+Takes step before after r = (card : Card) → Drafts before card → Steps (step card) after r
+
 -- what reading a whole text gathers: the draft of the card that it writes, or the refusal
 abbrev pub Gathers : Result Card CardRefusal → Result Draft CardRefusal → Type 0
 Gathers (Ok card) (Ok draft) = Drafts draft card

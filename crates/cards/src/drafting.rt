@@ -4,7 +4,7 @@ ghost use Rattle.cards.specs.Text.{four_texts};
 ghost use Rattle.cards.specs.Cards.{Card};
 ghost use Rattle.cards.specs.Reading.{head_line, head_only, whole_in, lab_line, row_line, line_in};
 ghost use Rattle.cards.specs.Rows.{map_ok};
-ghost use Rattle.cards.specs.Drafts.{Drafts, Steps};
+ghost use Rattle.cards.specs.Drafts.{Drafts, Takes};
 
 use crate::draft::Draft;
 use crate::heads::{head_in, lab_in};
@@ -34,7 +34,7 @@ impl Draft {
 
     // Takes a line as a `lab` line.
     fn take_lab(&mut self, fields: &Fields) -> Result<(), CardRefusal>
-        ensures { (card : Card) → Drafts self.old card → Steps (lab_line card fields.now.line (four_texts fields.now)) self.new result }
+        ensures { Takes (λ card. lab_line card fields.now.line (four_texts fields.now)) self.old self.new result }
     {
         if !self.rows.is_empty() {
             return Err(CardRefusal::Lab {
@@ -52,7 +52,7 @@ impl Draft {
 
     // Takes a line as a row.
     fn take_row(&mut self, word: Word, fields: &Fields) -> Result<(), CardRefusal>
-        ensures { (card : Card) → Drafts self.old card → Steps (row_line card fields.now.line word (four_texts fields.now)) self.new result }
+        ensures { Takes (λ card. row_line card fields.now.line word (four_texts fields.now)) self.old self.new result }
     {
         let line = fields.line;
         if self.rows.is_full() {
@@ -69,7 +69,7 @@ impl Draft {
 
     // Takes line `line`, which is not the head.
     pub(crate) fn take_line(&mut self, line: usize, text: &[u8]) -> Result<(), CardRefusal>
-        ensures { (card : Card) → Drafts self.old card → Steps (line_in card line text.now) self.new result }
+        ensures { Takes (λ card. line_in card line text.now) self.old self.new result }
     {
         let fields = four_fields(line, text)?;
         if fields.first == b"lab".as_slice() {

@@ -39,7 +39,8 @@ fn label_limit(kind: LabelKind) -> u32
     ensures { result ≡ label_limit kind }
 {
     match kind {
-        LabelKind::Makers => 65535,
+        LabelKind::Makers => u32::from(u16::MAX),
+        // Kept: the crate of the grades, which is not below this one, has no plainer word for the last of them.
         LabelKind::Grades => 15,
     }
 }

@@ -1,11 +1,10 @@
 // Reading a card.
 ghost use Rattle.std.specs.Prelude.{◌≡◌, ◌+◌};
 ghost use Rattle.cards.specs.Text.{lines_of, left_in};
-ghost use Rattle.cards.specs.Cards.{Card};
 ghost use Rattle.cards.specs.Reading.{extent_fits, lines_in, read_card};
 ghost use Rattle.cards.specs.Laws.{ReadingLaws};
 ghost use Rattle.cards.specs.Reads.{Reads};
-ghost use Rattle.cards.specs.Drafts.{Drafts, Steps, Gathers};
+ghost use Rattle.cards.specs.Drafts.{Gathers, Takes};
 
 use crate::accepted::Accepted;
 use crate::draft::Draft;
@@ -24,7 +23,7 @@ fn fits_extent(text: &[u8]) -> bool
 
 // Takes the lines that are left.
 fn take_lines(reader: &mut Reader, draft: &mut Draft) -> Result<(), CardRefusal>
-    ensures { (card : Card) → Drafts draft.old card → Steps (lines_in card (reader.old.line + 1) (lines_of (left_in reader.old))) draft.new result }
+    ensures { Takes (λ card. lines_in card (reader.old.line + 1) (lines_of (left_in reader.old))) draft.old draft.new result }
 {
     while let Some(line) = reader.next_line() {
         draft.take_line(reader.line, line)?;
