@@ -1,14 +1,16 @@
 // Reading a card into a draft, line by line.
-ghost use Rattle.std.specs.Prelude.{◌≡◌, IfOk};
+ghost use Rattle.std.specs.Prelude.{◌≡◌, true, IfOk};
 ghost use Rattle.cards.specs.Text.{four_texts};
-ghost use Rattle.cards.specs.Cards.{Card};
+ghost use Rattle.cards.specs.Cards.{Card, lab_fits};
+ghost use Rattle.cards.specs.Heads.{lab_in};
 ghost use Rattle.cards.specs.Reading.{head_line, head_only, whole_in, lab_line, row_line, line_in};
 ghost use Rattle.cards.specs.Rows.{map_ok};
 ghost use Rattle.cards.specs.Drafts.{Drafts, Takes};
 
 use crate::draft::Draft;
-use crate::heads::{head_in, lab_in};
+use crate::heads::{Lab, head_in};
 use crate::lines::{Fields, four_fields};
+use crate::numbers::plain;
 use crate::rows::row_in;
 use crate::words::{Word, word_in};
 use arrayvec::ArrayVec;
@@ -32,6 +34,24 @@ impl Draft {
         })
     }
 
+    // The `lab` line that the fields write, or the first wrong field. It begins no sooner than the `lab` lines before it end.
+    fn lab_in(&self, fields: &Fields) -> Result<Lab, CardRefusal>
+        ensures value { result ≡ lab_in self.now.head self.now.covered fields.now.line (four_texts fields.now) }
+        ensures bound { IfOk result (λ lab. lab_fits self.now.head self.now.covered lab ≡ true) }
+    {
+        let line = fields.line;
+        let last = self.head.words - 1;
+        let from = plain(fields.second, self.covered, last).ok_or(CardRefusal::Lab {
+            line,
+            field: 2,
+        })?;
+        let rest = self.head.words - from;
+        let count = plain(fields.third, 1, rest).ok_or(CardRefusal::Lab { line, field: 3 })?;
+        let limit = self.head.kind.label_limit();
+        let label = plain(fields.fourth, 0, limit).ok_or(CardRefusal::Lab { line, field: 4 })?;
+        Ok(Lab { from, count, label })
+    }
+
     // Takes a line as a `lab` line.
     fn take_lab(&mut self, fields: &Fields) -> Result<(), CardRefusal>
         ensures { Takes (λ card. lab_line card fields.now.line (four_texts fields.now)) self.old self.new result }
@@ -42,7 +62,7 @@ impl Draft {
                 field: 1,
             });
         }
-        let lab = lab_in(self.head, self.covered, fields)?;
+        let lab = self.lab_in(fields)?;
         let end = lab.from + lab.count;
         self.labels[lab.from as usize..end as usize].fill(lab.label);
         self.covered = end;

@@ -17,7 +17,7 @@ returns c = λ card drafts.
     let none : length card.rows ≡ 0 = grind (arith, nat_tests, ap length drafts.rows, c.is_empty.ensures, c.if-not-is_empty.false) in
     let read : lab_in card.head (covered_by card.labs) c.args.fields.now.line four ≡ Ok lab =
     ap₂ (λ head covered. lab_in head covered c.args.fields.now.line four) (sym drafts.head) (sym drafts.covered) ∙ sym c.in_ok-lab.ensures.value in
-    let fits : lab_fits self.head self.covered lab ≡ true = c.in_ok-lab.ensures.bound self.some in
+    let fits : lab_fits self.head self.covered lab ≡ true = c.in_ok-lab.ensures.bound in
     let inside : lab.from + lab.count ≤ length self.labels = grind (arith, nat_tests) in
     steps_by _ (Ok tt) (lab_taken card c.args.fields.now.line four lab none read) (
       refl,
