@@ -5,6 +5,7 @@ use Rattle.std.specs.Option.{ok_or}
 use Rattle.std.specs.Str.{bytes_eq}
 use Rattle.std.proofs.ByRecursion.{All-push}
 use Rattle.std.proofs.lemmas.Slice.Eq.{bytes_eq-Decides}
+use Rattle.std.proofs.lemmas.List.Sums.{fold_push}
 use Rattle.std.proofs.lemmas.List.{append_assoc, append-nil, length_push, flat_map_more, nil_from_length}
 use Rattle.std.proofs.lemmas.Bool.{and_parts, and_from, eqb-true, leb-false, cond-true, cond-false, cases_Bool}
 use Rattle.refusals.specs.declared.cards.CardRefusal.{CardRefusal}
@@ -20,7 +21,6 @@ use Rattle.cards.specs.Rows.{row_in}
 use Rattle.cards.specs.Heads.{and_then, head_in, lab_in}
 use Rattle.cards.specs.Cards.{Card, line_text, head_text, lab_text, row_text, written, lab_fits, labs_fit}
 use Rattle.cards.specs.Reading.{covered_from, covered_by, head_only, with_lab, with_row, counted_fields, head_line, lab_line, row_line, line_by_word, line_in, lines_in}
-use Rattle.cards.proofs.Painting.{covered_push}
 use Rattle.cards.proofs.Stepping.{lab_taken, row_taken}
 use Rattle.cards.proofs.Outcomes.{same_ok, passed, passed_not, then_steps, mapped, map_step, found, there}
 use Rattle.cards.proofs.RowLines.{ClearFour, Fitting, word_in, word_sound, name_read, row_name, row_sound, row_complete}
@@ -185,7 +185,7 @@ labs_read head head-fits before (lab ∷ labs) n rest fits =
     let (here, more) = and_parts (lab_fits head (covered_by before) lab) (labs_fit head (lab.from + lab.count) labs) fits in
     let (read, clear) = lab_complete head head-fits (covered_by before) n lab here in
     let (m, then-a) =
-    labs_read head head-fits (before ++ lab ∷ []) labs (suc n) rest (ap (λ covered. labs_fit head covered labs) (covered_push 0 before lab) ∙ more) in
+    labs_read head head-fits (before ++ lab ∷ []) labs (suc n) rest (ap (λ covered. labs_fit head covered labs) (fold_push _ 0 before lab) ∙ more) in
     let card = made_of head before [] in (
       m,
       ap (λ text. lines_in card n (lines_of text)) (append_assoc (lab_line_text lab) (flat_map lab_line_text labs) rest)

@@ -1,5 +1,5 @@
 -- Lemmas on the tables of a draft.
-use Rattle.std.proofs.Common.{◌≡◌, ℕ, ◌+◌, ◌-◌, ◌≤◌, Bool, true, cond, ◌&&◌, ltb, leb, List, [], ◌∷◌, ◌++◌, length, get_or, take, drop, replicate, sym, refl, ap, ◌∙◌, ⊎_elim, arith, rules}
+use Rattle.std.proofs.Common.{◌≡◌, ℕ, ◌-◌, ◌≤◌, Bool, true, cond, ◌&&◌, ltb, leb, List, [], ◌∷◌, ◌++◌, length, get_or, take, drop, replicate, sym, ap, ◌∙◌, ⊎_elim, arith, rules}
 use borrow.Rule.Slice.PartMut.{mid_of, put_mid}
 use Rattle.std.proofs.lemmas.List.{places, length-replicate, length-drop, length-take-le, get_or_append_left, get_or_push, length_push}
 use Rattle.std.proofs.lemmas.Bool.{cases_lt}
@@ -8,9 +8,6 @@ use Rattle.routine.specs.declared.rows.Row.{Row}
 use Rattle.routine.specs.declared.rows.Row.TheVariants.{Halt}
 use Rattle.routine.specs.Limits.{every}
 use Rattle.routine.proofs.Limits.{every_from, every_at}
-use Rattle.cards.specs.declared.heads.Lab.{Lab}
-use Rattle.cards.specs.Cards.{covers, label_after}
-use Rattle.cards.specs.Reading.{covered_from}
 
 -- a part from the start, as the code hands it on
 pub part : {X : Type 0} (n : ℕ) (xs : List X) → take (n - 0) xs ≡ take n xs
@@ -40,13 +37,3 @@ every_push test rows row all last =
     let here : length rows ≡ j = omega (arith, length_push rows row) in
     ap (test j) (get_or_push rows row Halt j here) ∙ ap (λ i. test i row) (sym here) ∙ last)
     (cases_lt j (length rows)))
-
--- one more `lab` line gives its label to the words that it covers
-pub label_push : (before : ℕ) (labs : List Lab) (lab : Lab) (i : ℕ)
-    → label_after before (labs ++ lab ∷ []) i ≡ cond (covers lab i) lab.label (label_after before labs i)
-label_push before [] lab i = refl
-label_push before (l ∷ labs) lab i = label_push (cond (covers l i) l.label before) labs lab i
-
-pub covered_push : (covered : ℕ) (labs : List Lab) (lab : Lab) → covered_from covered (labs ++ lab ∷ []) ≡ lab.from + lab.count
-covered_push covered [] lab = refl
-covered_push covered (l ∷ labs) lab = covered_push (l.from + l.count) labs lab

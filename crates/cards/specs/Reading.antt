@@ -1,5 +1,6 @@
 -- What reading makes of a text: the card that it writes, or the first refusal.
 use Rattle.std.specs.Prelude.{ℕ, suc, ◌+◌, ◌-◌, Bool, cond, ◌&&◌, List, [], ◌∷◌, ◌++◌, length, Some, None, Ok, Err, codes, Option, Result, ◌==◌, nat_le, slice_index}
+use Rattle.std.specs.List.{fold}
 use Rattle.std.specs.Option.{ok_or}
 use Rattle.std.specs.Str.{bytes_eq}
 use Rattle.refusals.specs.declared.cards.CardRefusal.{CardRefusal}
@@ -18,8 +19,7 @@ use Rattle.cards.specs.Cards.{Card}
 
 -- the word after the last that `lab` lines cover
 abbrev pub covered_from : ℕ → List Lab → ℕ
-covered_from covered [] = covered
-covered_from covered (lab ∷ labs) = covered_from (lab.from + lab.count) labs
+covered_from covered labs = fold (λ _ lab. lab.from + lab.count) covered labs
 
 abbrev pub covered_by : List Lab → ℕ
 covered_by labs = covered_from 0 labs

@@ -1,24 +1,22 @@
-use Rattle.std.proofs.Common.{◌≡◌, ℕ, List, [], ◌∷◌, ◌+◌, ◌-◌, ◌*◌, ◌^◌, min, refl, ap, ◌∙◌, arith, tests, rules}
-use Rattle.std.specs.List.{fold}
+use Rattle.std.proofs.Common.{◌≡◌, ℕ, ◌+◌, ◌-◌, ◌*◌, ◌^◌, min, refl, ◌∙◌, arith, tests, rules}
 use Rattle.std.proofs.lemmas.Iterator.{YieldsList-from_slice}
 use Rattle.std.proofs.lemmas.Iterator.Consumers.{fold_from_yields_List}
-use Rattle.cards.specs.Numbers.{onward}
+use Rattle.std.proofs.lemmas.List.Folds.{fold_along}
 use Rattle.cards.proofs.numbers.capped_value.Goals as goal
 
--- one digit more, cut down
-abbrev step : ℕ → ℕ → ℕ
-step value digit = min (min (value * 10) (2 ^ 64 - 1) + (digit - 48)) (2 ^ 64 - 1)
+-- one digit more, and the same cut down
+abbrev more : ℕ → ℕ → ℕ
+more n digit = 10 * n + (digit - 48)
 
-step_cut : (n d : ℕ) → min (min (min n (2 ^ 64 - 1) * 10) (2 ^ 64 - 1) + d) (2 ^ 64 - 1) ≡ min (10 * n + d) (2 ^ 64 - 1)
-step_cut n d = omega arith
+abbrev capped : ℕ → ℕ → ℕ
+capped n digit = min (min (n * 10) (2 ^ 64 - 1) + (digit - 48)) (2 ^ 64 - 1)
 
 -- a number that was cut down grows to one that is cut down
-cut_down : (n : ℕ) (digits : List ℕ) → fold step (min n (2 ^ 64 - 1)) digits ≡ min (onward n digits) (2 ^ 64 - 1)
-cut_down n [] = refl
-cut_down n (d ∷ digits) = ap (λ value. fold step value digits) (step_cut n (d - 48)) ∙ cut_down (10 * n + (d - 48)) digits
+stays_cut : (n m digit : ℕ) → n ≡ min m (2 ^ 64 - 1) → capped n digit ≡ min (more m digit) (2 ^ 64 - 1)
+stays_cut n m digit is = omega arith
 
 pub returns : goal.returns
 returns c =
     let digits = c.args.digits.now in
-    fold_from_yields_List _ step 0 c.fold.result c.fold.ensures.ran (YieldsList-from_slice digits cc) (λ a x b q k. search (rules, tests))
-    ∙ cut_down 0 digits
+    fold_from_yields_List _ capped 0 c.fold.result c.fold.ensures.ran (YieldsList-from_slice digits cc) (λ a x b q k. search (rules, tests))
+    ∙ fold_along capped more (λ n m. n ≡ min m (2 ^ 64 - 1)) stays_cut 0 0 digits refl

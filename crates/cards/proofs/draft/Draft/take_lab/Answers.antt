@@ -1,11 +1,12 @@
 use Rattle.std.proofs.Common.{◌≡◌, ◌+◌, ◌≤◌, true, cond, length, Ok, sym, refl, ap, ◌∙◌, ap₂, arith}
 use Rattle.std.proofs.lemmas.Bool.Decides.{nat_tests}
 use Rattle.std.proofs.lemmas.List.{length_push}
+use Rattle.std.proofs.lemmas.List.Sums.{fold_push}
 use Rattle.cards.specs.Text.{four_texts}
 use Rattle.cards.specs.Heads.{lab_in}
 use Rattle.cards.specs.Cards.{covers, lab_fits}
 use Rattle.cards.specs.Reading.{covered_by}
-use Rattle.cards.proofs.Painting.{painted, label_push, covered_push}
+use Rattle.cards.proofs.Painting.{painted}
 use Rattle.cards.proofs.Stepping.{steps_by, lab_taken}
 use Rattle.cards.proofs.draft.Draft.take_lab.Goals as goal
 
@@ -24,10 +25,10 @@ returns c = λ card drafts.
       record {
         head = drafts.head;
         labs = ap (λ n. n + 1) drafts.labs ∙ sym (length_push card.labs lab);
-        covered = sym (covered_push 0 card.labs lab);
+        covered = sym (fold_push _ 0 card.labs lab);
         labels = λ i below.
             painted self.labels c.fill.new.self lab.from (lab.from + lab.count) lab.label (omega arith) inside (c.fill.ensures.after (λ y same. same)) i
-            ∙ ap (cond (covers lab i) lab.label) (drafts.labels i below) ∙ sym (label_push 0 card.labs lab i);
+            ∙ ap (cond (covers lab i) lab.label) (drafts.labels i below) ∙ sym (fold_push _ 0 card.labs lab);
         rows = drafts.rows;
       },
     )
