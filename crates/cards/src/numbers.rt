@@ -13,14 +13,13 @@ pub(crate) fn number(text: &[u8], limit: u32) -> Result<u32, Cause>
     if !is_numeral(text) {
         return Err(Cause::Form);
     }
-    if text.len() > 1 && text[0] == b'0' {
+    if let [b'0', _, ..] = text {
         return Err(Cause::LeadingZero);
     }
-    let value = capped_value(text);
-    if value > u64::from(limit) {
-        return Err(Cause::BeyondLimit);
+    match u32::try_from(capped_value(text)) {
+        Ok(value) if value <= limit => Ok(value),
+        _ => Err(Cause::BeyondLimit),
     }
-    Ok(value as u32)
 }
 
 // The number that the text writes, if it lies between the limits.

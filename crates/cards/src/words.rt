@@ -20,7 +20,7 @@ pub(crate) enum Word {
     Halt,
 }
 
-// All words, in the order of the instruction table.
+// All words, in the order of the instruction table. Kept a list: each name stands in `name` alone, and is looked for there.
 const WORDS: [Word; 19] = [
     Word::Set,
     Word::Copy,

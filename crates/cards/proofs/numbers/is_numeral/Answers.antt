@@ -7,6 +7,7 @@ use Rattle.std.proofs.lemmas.Iterator.Search.{all_from_yields_List}
 use Rattle.std.proofs.lemmas.Bool.Decides.{nat_tests}
 use Rattle.cards.proofs.numbers.is_numeral.Goals as goal
 
+-- the two words of the library for digits alone
 all_digits : (text : List ℕ) → list_all is_ascii_digit text ≡ all_ascii_digits text
 all_digits [] = refl
 all_digits (byte ∷ text) = ap (λ rest. is_ascii_digit byte && rest) (all_digits text)
