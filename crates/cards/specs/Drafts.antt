@@ -17,7 +17,7 @@ abbrev pub Steps : Result Card CardRefusal → Draft → Result (Unit {0}) CardR
 Steps (Ok next) draft r = (r ≡ Ok tt) × Drafts draft next
 Steps (Err refusal) draft r = r ≡ Err refusal
 
--- from the draft of whatever card, a step of reading goes on
+-- what a step of reading makes of the draft of any card, by what the rules make of that card
 abbrev pub Takes : (Card → Result Card CardRefusal) → Draft → Draft → Result (Unit {0}) CardRefusal → Type 0
 Takes step before after r = (card : Card) → Drafts before card → Steps (step card) after r
 

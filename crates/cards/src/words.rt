@@ -30,6 +30,7 @@ pub(crate) fn word_in(text: &[u8]) -> Option<Word>
     }
 }
 
+// The word that a name stands for.
 #[tactic(auto, unfolding(crate::specs::Words::named))]
 fn word_named(name: &[u8]) -> Option<Word>
     ensures { result ≡ named name.now all_words }
