@@ -23,6 +23,11 @@ use Rattle.cards.proofs.Wholes.{whole_sound}
 pub gathers_by : (r : Result Draft CardRefusal) {read rule : Result Card CardRefusal} → read ≡ rule → Gathers rule r → Gathers read r
 gathers_by r same gathered = subst (λ s. Gathers s r) (sym same) gathered
 
+-- the refusal is the one that was told
+pub refused_by : (r : Result Draft CardRefusal) {read : Result Card CardRefusal} {e : CardRefusal} → read ≡ Err e
+    → (told : CardRefusal) × (r ≡ Err told) × (told ≡ e) → Gathers read r
+refused_by r {e = e} is (told, as_told, same) = gathers_by r is (subst (Gathers (Err e)) (sym as_told) same)
+
 pub read_extent : (text : List ℕ) → extent_fits text ≡ false → read_card text ≡ Err refusal.Extent
 unfolding read_card
 read_extent text short = cond-false (extent_fits text) _ _ short

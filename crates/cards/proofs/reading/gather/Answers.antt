@@ -1,12 +1,12 @@
-use Rattle.std.proofs.Common.{◌≡◌, ◌+◌, ◌∷◌, Ok, Err, Result, sym, refl, ap, ◌∙◌, subst, arith}
+use Rattle.std.proofs.Common.{◌≡◌, ◌+◌, ◌∷◌, Ok, Err, Result, sym, refl, ap, ◌∙◌, arith}
 use Rattle.std.proofs.lemmas.Result.{err_from_is_err_and}
 use Rattle.refusals.specs.declared.cards.CardRefusal.{CardRefusal}
 use Rattle.cards.specs.Text.{lines_of, left_in}
 use Rattle.cards.specs.Cards.{Card}
 use Rattle.cards.specs.Reading.{head_only, lines_in}
-use Rattle.cards.specs.Drafts.{Steps, Gathers}
+use Rattle.cards.specs.Drafts.{Steps}
 use Rattle.cards.proofs.Stepping.{steps_by, took, failed}
-use Rattle.cards.proofs.Gathering.{gathers_by, read_extent, head_refused, lines_refused, whole_refused, whole_accepted}
+use Rattle.cards.proofs.Gathering.{gathers_by, refused_by, read_extent, head_refused, lines_refused, whole_refused, whole_accepted}
 use Rattle.cards.proofs.reading.gather.Goals as goal
 use Rattle.cards.proofs.reading.gather.Goals.{In-Some, After-take_lines}
 
@@ -31,31 +31,28 @@ returns-then-not-fits_extent c = gathers_by (Err _) (read_extent c.args.text.now
 
 pub returns-in_err-draft : goal.returns-in_err-draft
 returns-in_err-draft c =
-    let told = err_from_is_err_and c.from_residual.result c.from_residual.ensures.1 in
-    gathers_by c.from_residual.result
+    refused_by c.from_residual.result
     (head_refused c.args.text.now c.in-Some.first.now _ (sym c.if-not-fits_extent.ensures) (lines_are (goal.at.returns-in_err-draft c).In-Some)
     _ (sym c.in_err-draft.ensures.head))
-    (subst (Gathers (Err _)) (sym told.1) told.2)
+    (err_from_is_err_and c.from_residual.result c.from_residual.ensures.1)
 
 pub returns-in_err-take_lines : goal.returns-in_err-take_lines
 returns-in_err-take_lines c =
     let at = goal.at.returns-in_err-take_lines c in
-    let told = err_from_is_err_and c.from_residual-in_err-take_lines.result c.from_residual-in_err-take_lines.ensures.1 in
-    gathers_by c.from_residual-in_err-take_lines.result
+    refused_by c.from_residual-in_err-take_lines.result
     (lines_refused c.args.text.now c.in-Some.first.now _ (sym c.if-not-fits_extent.ensures) (lines_are at.In-Some)
     c.in_ok-draft.draft.head (sym c.in_ok-draft.ensures.head) _
     (failed (rest_read at.After-take_lines) c.take_lines.new.draft c.take_lines.result _ (rest_steps at.After-take_lines) c.in_err-take_lines.was))
-    (subst (Gathers (Err _)) (sym told.1) told.2)
+    (err_from_is_err_and c.from_residual-in_err-take_lines.result c.from_residual-in_err-take_lines.ensures.1)
 
 pub returns-in_err-check_whole : goal.returns-in_err-check_whole
 returns-in_err-check_whole c =
     let at = goal.at.returns-in_err-check_whole c in
     let (card, read, drafts) = took (rest_read at.After-take_lines) c.take_lines.new.draft c.take_lines.result (rest_steps at.After-take_lines) c.in_ok-take_lines.was in
-    let told = err_from_is_err_and c.from_residual-in_err-check_whole.result c.from_residual-in_err-check_whole.ensures.1 in
-    gathers_by c.from_residual-in_err-check_whole.result
+    refused_by c.from_residual-in_err-check_whole.result
     (whole_refused c.args.text.now c.in-Some.first.now _ (sym c.if-not-fits_extent.ensures) (lines_are at.In-Some)
     c.in_ok-draft.draft.head (sym c.in_ok-draft.ensures.head) card read _ (sym (c.in_err-check_whole.ensures card drafts)))
-    (subst (Gathers (Err _)) (sym told.1) told.2)
+    (err_from_is_err_and c.from_residual-in_err-check_whole.result c.from_residual-in_err-check_whole.ensures.1)
 
 pub returns : goal.returns
 returns c =
