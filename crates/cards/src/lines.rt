@@ -1,5 +1,5 @@
 // A card's lines, and a line's fields.
-ghost use Rattle.std.specs.Prelude.{◌≡◌, ◌+◌, ◌<◌, [], ◌∷◌, ◌++◌, length, IfOk, Some, None, MatchOption};
+ghost use Rattle.std.specs.Prelude.{◌≡◌, ◌+◌, ◌<◌, [], ◌∷◌, ◌++◌, length, IfOk, IfSome, IfNone, OnSome, MatchOption};
 ghost use Rattle.cards.specs.Rows.{map_ok};
 ghost use Rattle.cards.specs.Reading.{counted_fields};
 ghost use Rattle.cards.specs.Text.{Lacks, lines_of, four_texts, left_in};
@@ -61,7 +61,10 @@ impl<'a> Reader<'a> {
 
     // The next line, if there is one. A last line that nothing ends is taken as it stands.
     pub(crate) fn next_line(&mut self) -> Option<&'a [u8]>
-        ensures { elim result [ None ↦ (left_in self.old ≡ []) × (self.new ≡ self.old) | Some line ↦ (lines_of (left_in self.old) ≡ line.now ∷ lines_of (left_in self.new)) × (self.new.line ≡ self.old.line + 1) × (length (left_in self.new) < length (left_in self.old)) ] }
+        ensures none { IfNone result ((left_in self.old ≡ []) × (self.new ≡ self.old)) }
+        ensures line { IfSome result (λ line. lines_of (left_in self.old) ≡ line.now ∷ lines_of (left_in self.new)) }
+        ensures number { OnSome result (self.new.line ≡ self.old.line + 1) }
+        ensures shorter { OnSome result (length (left_in self.new) < length (left_in self.old)) }
     {
         if self.at == self.card.len() {
             return None;

@@ -1,5 +1,5 @@
 // Decimal numbers as cards write them.
-ghost use Rattle.std.specs.Prelude.{◌≡◌, ◌-◌, ◌^◌, ◌≤◌, min, IfOk, Some, None};
+ghost use Rattle.std.specs.Prelude.{◌≡◌, ◌-◌, ◌^◌, ◌≤◌, min, IfOk, IfSome};
 ghost use Rattle.cards.specs.Numbers.{number_in, plain_in, is_numeral, leads_with_zero, value_of};
 
 use refusals::Cause;
@@ -25,7 +25,7 @@ pub(crate) fn number(text: &[u8], limit: u32) -> Result<u32, Cause>
 // The number that the text writes, if it lies between the limits.
 pub(crate) fn plain(text: &[u8], low: u32, high: u32) -> Option<u32>
     ensures value { result ≡ plain_in low high text.now }
-    ensures bound { elim result [ None ↦ Unit {0} | Some n ↦ (low ≤ n) × (n ≤ high) ] }
+    ensures bound { IfSome result (λ n. (low ≤ n) × (n ≤ high)) }
 {
     number(text, high).ok().filter(|n| low <= *n)
 }

@@ -12,7 +12,7 @@ use Rattle.cards.proofs.reading.gather.Goals.{In-Some, After-take_lines}
 
 -- the text's first line, and the lines that are left
 lines_are : (c : In-Some) → lines_of c.args.text.now ≡ c.in-Some.first.now ∷ lines_of (left_in c.next_line.new.self)
-lines_are c = ap lines_of (sym c.new-reader.ensures.left) ∙ c.in-Some.ensures.0
+lines_are c = ap lines_of (sym c.new-reader.ensures.left) ∙ c.in-Some.ensures.line
 
 -- what was made of the lines that are left, which are counted from 2
 abbrev rest_read : After-take_lines → Result Card CardRefusal
@@ -22,7 +22,7 @@ rest_steps : (c : After-take_lines) → Steps (rest_read c) c.take_lines.new.dra
 rest_steps c =
     let reader = c.next_line.new.self in
     let head = c.in_ok-draft.draft.head in
-    let second : reader.line + 1 ≡ 2 = omega (arith, c.in-Some.ensures.1, c.new-reader.ensures.line) in
+    let second : reader.line + 1 ≡ 2 = omega (arith, c.in-Some.ensures.number, c.new-reader.ensures.line) in
     steps_by c.take_lines.new.draft c.take_lines.result (ap (λ k. lines_in (head_only head) k (lines_of (left_in reader))) (sym second))
     (c.take_lines.ensures (head_only head) c.in_ok-draft.ensures.card)
 
