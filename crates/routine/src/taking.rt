@@ -11,8 +11,10 @@ pub const MAX_ROWS: usize = 256;
 
 pub const MAX_WORDS: usize = 4096;
 
+// Registers are numbered from 0.
 pub const LAST_REGISTER: u8 = 15;
 
+// The largest constant that a register may be shifted by, in bits.
 pub const LAST_SHIFT: u32 = 31;
 
 // Says whether the source can be taken with that many words. The limits are tried in the order of the refusals' numbers.
