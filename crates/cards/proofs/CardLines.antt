@@ -1,9 +1,11 @@
 -- Lemmas on a card's lines: reading one after the other is the inverse of writing them.
 use Rattle.std.proofs.Common.{◌≡◌, ℕ, suc, ◌+◌, ◌<◌, ◌≤◌, true, eqb, leb, List, [], ◌∷◌, ◌++◌, length, Some, None, Ok, Err, codes, Option, Result, sym, refl, ap, ◌∙◌, subst, ⊎_elim, arith}
 use Rattle.std.specs.List.{flat_map, AllByRecursion}
+use Rattle.std.specs.Option.{ok_or}
 use Rattle.std.specs.Str.{bytes_eq}
 use Rattle.std.proofs.ByRecursion.{All-push}
 use Rattle.std.proofs.lemmas.Slice.Eq.{bytes_eq-Decides}
+use Rattle.std.proofs.lemmas.List.Sums.{fold_push}
 use Rattle.std.proofs.lemmas.List.{append_assoc, append-nil, length_push, flat_map_more, nil_from_length}
 use Rattle.std.proofs.lemmas.Bool.{and_parts, and_from, eqb-true, leb-false, cond-true, cond-false, cases_Bool}
 use Rattle.refusals.specs.declared.cards.CardRefusal.{CardRefusal}
@@ -19,9 +21,8 @@ use Rattle.cards.specs.Rows.{row_in}
 use Rattle.cards.specs.Heads.{and_then, head_in, lab_in}
 use Rattle.cards.specs.Cards.{Card, line_text, head_text, lab_text, row_text, written, lab_fits, labs_fit}
 use Rattle.cards.specs.Reading.{covered_from, covered_by, head_only, with_lab, with_row, counted_fields, head_line, lab_line, row_line, line_by_word, line_in, lines_in}
-use Rattle.cards.proofs.Painting.{covered_push}
-use Rattle.cards.proofs.Stepping.{row_taken}
-use Rattle.cards.proofs.Outcomes.{same_ok, passed, passed_not, then_steps, mapped, found}
+use Rattle.cards.proofs.Stepping.{lab_taken, row_taken}
+use Rattle.cards.proofs.Outcomes.{same_ok, passed, passed_not, then_steps, mapped, map_step, found, there}
 use Rattle.cards.proofs.RowLines.{ClearFour, Fitting, word_in, word_sound, name_read, row_name, row_sound, row_complete}
 use Rattle.cards.proofs.LineTexts.{ended_by, bare, fields_rejoined, fields_found, line_found}
 use Rattle.cards.proofs.HeadLines.{HeadFits, head_sound, head_complete, lab_sound, lab_complete}
@@ -81,8 +82,8 @@ module _ (card : Card) (fits : Fits card) (n : ℕ) (line : List ℕ) (four : Fo
   lab_line_sound : four.first ≡ codes "lab" → lab_line card n four ≡ Ok next → Adds card (ended_by 10 line) next
   lab_line_sound name is =
       let (none-eqb, then-a) = passed (eqb (length card.rows) 0) _ _ next is in
-      let (lab, lab-is, same) = mapped (with_lab card) (refusal.Lab n) (lab_in card.head (covered_by card.labs) four) next then-a in
-      let (text, lab-fits) = lab_sound card.head fits.head (covered_by card.labs) four lab name lab-is in
+      let (lab, lab-is, same) = map_step (lab_in card.head (covered_by card.labs) n four) (with_lab card) next then-a in
+      let (text, lab-fits) = lab_sound card.head fits.head (covered_by card.labs) n four lab name lab-is in
       let none = nil_from_length card.rows (eqb-true _ _ none-eqb) in
       subst (Adds card (ended_by 10 line)) same (
         record { head = fits.head; labs = labs_fit_push card.head 0 card.labs lab fits.labs lab-fits; rows = fits.rows; count = fits.count },
@@ -117,9 +118,7 @@ module _ (card : Card) (fits : Fits card) (n : ℕ) (line : List ℕ) (four : Fo
 
 -- the fields of a line where they were counted
 counted_four : (n : ℕ) (line : List ℕ) (four : Four) → counted_fields n line ≡ Ok four → four_of (fields_of line) ≡ Some four
-counted_four n line four is =
-    let (other, other-is, same) = found (refusal.FieldCount n) Ok (four_of (fields_of line)) four is in
-    other-is ∙ ap Some (same_ok other four same)
+counted_four n line four is = there (refusal.FieldCount n) (four_of (fields_of line)) four is
 
 line_sound : (card : Card) → Fits card → (n : ℕ) (line : List ℕ) (next : Card) → line_in card n line ≡ Ok next → Adds card (ended_by 10 line) next
 unfolding line_in
@@ -141,16 +140,13 @@ lines_sound card fits n (line ∷ lines) last is =
 -- the first line
 pub head_line_sound : (line : List ℕ) (head : Head) → head_line line ≡ Ok head → (line_text (head_text head) ≡ ended_by 10 line) × HeadFits head
 head_line_sound line head is =
-    let (four, counted, then-a) = then_steps (counted_fields 1 line) _ head is in
-    let (other, other-is, same) = mapped (λ head. head) refusal.Head (head_in four) head then-a in
-    let (text, fits) = head_sound four head (other-is ∙ ap Ok same) in
+    let (four, counted, then-a) = then_steps (counted_fields 1 line) head_in head is in
+    let (text, fits) = head_sound four head then-a in
     (ap line_text (sym text) ∙ fields_rejoined line four (counted_four 1 line four counted), fits)
 
 -- clear fields are counted as these four
 count_four : (n : ℕ) (four : Four) → ClearFour four → counted_fields n (bare four) ≡ Ok four
-count_four n four clear =
-    let counted : Option Four → Result Four CardRefusal = λ o. elim o [ None ↦ Err (refusal.FieldCount n) | Some four ↦ Ok four ] in
-    ap counted (fields_found four clear)
+count_four n four clear = ap (λ found. ok_or found (refusal.FieldCount n)) (fields_found four clear)
 
 -- a line of four fields that are accepted is read as what they add
 line_read : (card : Card) (n : ℕ) (four : Four) (rest : List ℕ) (next : Card) → ClearFour four → line_by_word card n four ≡ Ok next
@@ -166,12 +162,10 @@ abbrev made_of : Head → List Lab → List Row → Card
 made_of head labs rows = record { head = head; labs = labs; rows = rows }
 
 -- the fields of a `lab` line and of a row are accepted where they can be read
-lab_read : (card : Card) (n : ℕ) (lab : Lab) → card.rows ≡ [] → lab_in card.head (covered_by card.labs) (lab_text lab) ≡ Ok lab
+lab_read : (card : Card) (n : ℕ) (lab : Lab) → card.rows ≡ [] → lab_in card.head (covered_by card.labs) n (lab_text lab) ≡ Ok lab
     → line_by_word card n (lab_text lab) ≡ Ok (with_lab card lab)
 lab_read card n lab none read =
-    let known : Result Lab ℕ → Result Card CardRefusal =
-    λ r. elim r [ Ok lab ↦ Ok (with_lab card lab) | Err field ↦ Err (refusal.Lab n field) ] in
-    cond-true _ _ _ (ap (λ rows. eqb (length rows) 0) none) ∙ ap known read
+    lab_taken card n (lab_text lab) lab (ap length none) read
 
 row_read : (card : Card) (n : ℕ) (row : Row) → length card.rows < 256 → row_in card.head.words (word_in row) (row_text row) ≡ Ok row
     → line_by_word card n (row_text row) ≡ Ok (with_row card row)
@@ -189,9 +183,9 @@ unfolding labs_fit
 labs_read head head-fits before [] n rest fits = (n, ap (λ labs. lines_in (made_of head labs []) n (lines_of rest)) (sym (append-nil before)))
 labs_read head head-fits before (lab ∷ labs) n rest fits =
     let (here, more) = and_parts (lab_fits head (covered_by before) lab) (labs_fit head (lab.from + lab.count) labs) fits in
-    let (read, clear) = lab_complete head head-fits (covered_by before) lab here in
+    let (read, clear) = lab_complete head head-fits (covered_by before) n lab here in
     let (m, then-a) =
-    labs_read head head-fits (before ++ lab ∷ []) labs (suc n) rest (ap (λ covered. labs_fit head covered labs) (covered_push 0 before lab) ∙ more) in
+    labs_read head head-fits (before ++ lab ∷ []) labs (suc n) rest (ap (λ covered. labs_fit head covered labs) (fold_push _ 0 before lab) ∙ more) in
     let card = made_of head before [] in (
       m,
       ap (λ text. lines_in card n (lines_of text)) (append_assoc (lab_line_text lab) (flat_map lab_line_text labs) rest)
@@ -214,8 +208,7 @@ rows_read head head-fits labs before (row ∷ rows) n (here, more) room =
 pub head_line_read : (head : Head) → HeadFits head → (head_line (bare (head_text head)) ≡ Ok head) × ClearFour (head_text head)
 head_line_read head fits =
     let (read, clear) = head_complete head fits in
-    let known : Result Head ℕ → Result Head CardRefusal = λ r. elim r [ Ok head ↦ Ok head | Err field ↦ Err (refusal.Head field) ] in
-    (ap (λ r. and_then r (λ four. known (head_in four))) (count_four 1 (head_text head) clear) ∙ ap known read, clear)
+    (ap (λ r. and_then r head_in) (count_four 1 (head_text head) clear) ∙ read, clear)
 
 -- all lines after the head
 pub lines_read : (card : Card) → Fits card → (n : ℕ)

@@ -1,5 +1,6 @@
 -- Which fault is told: the first, whatever follows its line.
-use Rattle.std.proofs.Common.{◌≡◌, ℕ, suc, ◌+◌, true, false, eqb, leb, List, [], ◌∷◌, length, take, Some, None, Ok, Err, codes, Option, Result, sym, refl, ap, ◌∙◌, subst, ⊎_elim, arith}
+use Rattle.std.proofs.Common.{◌≡◌, ℕ, suc, ◌+◌, ◌-◌, true, false, eqb, leb, List, [], ◌∷◌, length, take, Some, None, Ok, Err, codes, Option, Result, sym, refl, ap, ◌∙◌, subst, ⊎_elim, arith}
+use Rattle.std.specs.Option.{ok_or}
 use Rattle.std.specs.Str.{bytes_eq}
 use Rattle.std.proofs.lemmas.Bool.{both_ways, cond-true, cond-false, cond_both, cases_Bool}
 use Rattle.refusals.specs.declared.cards.CardRefusal.{CardRefusal}
@@ -8,14 +9,14 @@ use Rattle.refusals.specs.ToldOfCards.{told_of}
 use Rattle.routine.specs.declared.rows.Row.{Row}
 use Rattle.routine.specs.Limits.{target_fits, last_ends}
 use Rattle.cards.specs.declared.heads.Head.{Head}
-use Rattle.cards.specs.declared.heads.Lab.{Lab}
 use Rattle.cards.specs.declared.rows.Fault.{Fault}
 use Rattle.cards.specs.declared.words.Word.{Word}
 use Rattle.cards.specs.Text.{Four, lines_of, fields_of, four_of}
 use Rattle.cards.specs.Fields.{part_of}
 use Rattle.cards.specs.Words.{word_of}
-use Rattle.cards.specs.Rows.{row_in}
-use Rattle.cards.specs.Heads.{and_then, head_in, lab_in}
+use Rattle.cards.specs.Rows.{map_ok, row_in}
+use Rattle.cards.specs.Numbers.{plain_in}
+use Rattle.cards.specs.Heads.{and_then, kind_named, label_limit, head_in, lab_in}
 use Rattle.cards.specs.Cards.{Card}
 use Rattle.cards.specs.Reading.{covered_by, head_only, with_lab, with_row, counted_fields, head_line, row_line, line_by_word, line_in, lines_in, first_failing, whole_in, extent_fits, card_in, read_card}
 use Rattle.cards.specs.Laws.{of_line}
@@ -46,17 +47,28 @@ then_names : {A B : Type 0} (n : ℕ) (r : Result A CardRefusal) (next : A → R
 then_names n (Ok a) next first rest = rest a
 then_names n (Err d) next first rest = err_names n d (first d refl)
 
-counted_names : (n : ℕ) (found : Option Four) → Names n (elim found [ None ↦ Err (refusal.FieldCount n) | Some four ↦ Ok four ])
-counted_names n None = err_names n (refusal.FieldCount n) refl
-counted_names n (Some four) = ok_names n four
+or_names : {A : Type 0} (n : ℕ) (found : Option A) (d : CardRefusal) → (told_of d).line ≡ n → Names n (ok_or found d)
+or_names n None d told = err_names n d told
+or_names n (Some a) d told = ok_names n a
 
-read_names : (read : Result Head ℕ) → Names 1 (elim read [ Ok head ↦ Ok head | Err field ↦ Err (refusal.Head field) ])
-read_names (Ok head) = ok_names 1 head
-read_names (Err field) = err_names 1 (refusal.Head field) refl
+map_names : {A B : Type 0} (n : ℕ) (r : Result A CardRefusal) (f : A → B) → Names n r → Names n (map_ok r f)
+map_names n (Ok a) f names = ok_names n (f a)
+map_names n (Err d) f names = err_names n d (names d refl)
 
-lab_names : (card : Card) (n : ℕ) (read : Result Lab ℕ) → Names n (elim read [ Ok lab ↦ Ok (with_lab card lab) | Err field ↦ Err (refusal.Lab n field) ])
-lab_names card n (Ok lab) = ok_names n (with_lab card lab)
-lab_names card n (Err field) = err_names n (refusal.Lab n field) refl
+-- the fields of a head and of a `lab` line
+head_fields : (four : Four) → Names 1 (head_in four)
+head_fields four =
+    cond_both (bytes_eq four.first (codes "card")) _ _ (Names 1)
+    (λ _. then_names 1 _ _ (or_names 1 (kind_named four.second) (refusal.Head 2) refl) (λ kind.
+    then_names 1 _ _ (or_names 1 (plain_in 0 (label_limit kind) four.third) (refusal.Head 3) refl) (λ reader.
+    then_names 1 _ _ (or_names 1 (plain_in 1 4096 four.fourth) (refusal.Head 4) refl) (λ words. ok_names 1 _))))
+    (λ _. err_names 1 (refusal.Head 1) refl)
+
+lab_fields : (head : Head) (covered n : ℕ) (four : Four) → Names n (lab_in head covered n four)
+lab_fields head covered n four =
+    then_names n _ _ (or_names n (plain_in covered (head.words - 1) four.second) (refusal.Lab n 2) refl) (λ from.
+    then_names n _ _ (or_names n (plain_in 1 (head.words - from) four.third) (refusal.Lab n 3) refl) (λ count.
+    then_names n _ _ (or_names n (plain_in 0 (label_limit head.kind) four.fourth) (refusal.Lab n 4) refl) (λ label. ok_names n _)))
 
 row_names : (card : Card) (n : ℕ) (read : Result Row Fault)
     → Names n (elim read [ Ok row ↦ Ok (with_row card row) | Err fault ↦ Err (refusal.RowField n fault.field fault.cause) ])
@@ -72,12 +84,12 @@ word_names card n four (Some word) =
 by_word_names : (card : Card) (n : ℕ) (four : Four) → Names n (line_by_word card n four)
 by_word_names card n four =
     cond_both (bytes_eq four.first (codes "lab")) _ _ (Names n)
-    (λ _. cond_both (eqb (length card.rows) 0) _ _ (Names n) (λ _. lab_names card n (lab_in card.head (covered_by card.labs) four)) (λ _. err_names n (refusal.Lab n 1) refl))
+    (λ _. cond_both (eqb (length card.rows) 0) _ _ (Names n) (λ _. map_names n _ (with_lab card) (lab_fields card.head (covered_by card.labs) n four)) (λ _. err_names n (refusal.Lab n 1) refl))
     (λ _. word_names card n four (word_of (part_of four.first)))
 
 line_names : (card : Card) (n : ℕ) (line : List ℕ) → Names n (line_in card n line)
 unfolding line_in
-line_names card n line = then_names n (counted_fields n line) (line_by_word card n) (counted_names n (four_of (fields_of line))) (by_word_names card n)
+line_names card n line = then_names n (counted_fields n line) (line_by_word card n) (or_names n (four_of (fields_of line)) (refusal.FieldCount n) refl) (by_word_names card n)
 
 -- lists that begin alike
 first_alike : {X : Type 0} (x : X) (others xs : List X) (n : ℕ) → take (suc n) others ≡ take (suc n) (x ∷ xs)
@@ -123,7 +135,7 @@ lines_prompt card n (line ∷ lines) e refused =
 
 head_names : (line : List ℕ) → Names 1 (head_line line)
 head_names line =
-    then_names 1 (counted_fields 1 line) _ (counted_names 1 (four_of (fields_of line))) (λ four. read_names (head_in four))
+    then_names 1 (counted_fields 1 line) head_in (or_names 1 (four_of (fields_of line)) (refusal.FieldCount 1) refl) head_fields
 
 -- the rows together have no fault that lies in one line
 abbrev NoLine : CardRefusal → Type 0

@@ -10,7 +10,7 @@ use Rattle.cards.specs.declared.heads.Lab.{Lab}
 use Rattle.cards.specs.Text.{Four}
 use Rattle.cards.specs.Heads.{kind_name, kind_named, label_limit, head_in, lab_in}
 use Rattle.cards.specs.Cards.{head_text, lab_text, lab_fits}
-use Rattle.cards.proofs.Outcomes.{same_ok, never_some, passed, then_steps, field_some, field_then}
+use Rattle.cards.proofs.Outcomes.{same_ok, never_some, passed, then_steps, there, there_then}
 use Rattle.cards.proofs.Numerals.{plain_sound, plain_complete, all_clear, decimal_clear}
 use Rattle.cards.proofs.RowLines.{ClearFour, same_four}
 
@@ -48,11 +48,11 @@ head_sound four head is =
     let (kind, kind-is, then-b) = then_steps _ _ _ then-a in
     let (reader, reader-is, then-c) = then_steps _ _ _ then-b in
     let (words, words-is, then-d) = then_steps _ _ _ then-c in
-    let (reader-text, _, reader-fits) = plain_sound 0 (label_limit kind) four.third reader (limit_small kind) (field_some _ _ _ reader-is) in
-    let (words-text, some, few) = plain_sound 1 4096 four.fourth words (lit< tt) (field_some _ _ _ words-is) in
+    let (reader-text, _, reader-fits) = plain_sound 0 (label_limit kind) four.third reader (limit_small kind) (there _ _ _ reader-is) in
+    let (words-text, some, few) = plain_sound 1 4096 four.fourth words (lit< tt) (there _ _ _ words-is) in
     let four_is =
     same_four four (codes "card") (kind_name kind) (decimal reader) (decimal words) ((bytes_eq-Decides four.first (codes "card")).0 name)
-    (kind_sound four.second kind (field_some _ _ _ kind-is)) reader-text words-text in
+    (kind_sound four.second kind (there _ _ _ kind-is)) reader-text words-text in
     subst (λ head. (four ≡ head_text head) × HeadFits head) (same_ok (record { kind = kind; reader = reader; words = words }) head then-d)
     (four_is, record { reader = reader-fits; some = some; few = few })
 
@@ -61,9 +61,9 @@ head_complete head fits =
     let small = limit_small head.kind in
     let reader-small : head.reader < 2 ^ 64 = omega arith in
     let words_small : head.words < 2 ^ 64 = omega arith in (
-      field_then 2 _ _ _ (kind_read head.kind).0
-          ∙ field_then 3 _ _ _ (plain_complete 0 (label_limit head.kind) head.reader small (omega arith) fits.reader)
-          ∙ field_then 4 _ _ _ (plain_complete 1 4096 head.words (lit< tt) fits.some fits.few),
+      there_then _ _ _ _ (kind_read head.kind).0
+          ∙ there_then _ _ _ _ (plain_complete 0 (label_limit head.kind) head.reader small (omega arith) fits.reader)
+          ∙ there_then _ _ _ _ (plain_complete 1 4096 head.words (lit< tt) fits.some fits.few),
       (refl, (kind_read head.kind).1, decimal_clear head.reader reader-small, decimal_clear head.words words_small),
     )
 
@@ -78,15 +78,15 @@ module _ (head : Head) (head-fits : HeadFits head) (covered : ℕ) where
   rest_small : (from : ℕ) → head.words - from < 2 ^ 64
   rest_small from = omega arith
 
-  pub lab_sound : (four : Four) (lab : Lab) → four.first ≡ codes "lab" → lab_in head covered four ≡ Ok lab
+  pub lab_sound : (n : ℕ) (four : Four) (lab : Lab) → four.first ≡ codes "lab" → lab_in head covered n four ≡ Ok lab
       → (four ≡ lab_text lab) × (lab_fits head covered lab ≡ true)
-  lab_sound four lab name is =
+  lab_sound n four lab name is =
       let (from, from_is, then-a) = then_steps _ _ _ is in
       let (count, count-is, then-b) = then_steps _ _ _ then-a in
       let (label, Label-is, then-c) = then_steps _ _ _ then-b in
-      let (from-text, from_low, from-high) = plain_sound covered (head.words - 1) four.second from last_small (field_some _ _ _ from_is) in
-      let (count-text, count_low, count-high) = plain_sound 1 (head.words - from) four.third count (rest_small from) (field_some _ _ _ count-is) in
-      let (label-text, _, label-fits) = plain_sound 0 (label_limit head.kind) four.fourth label (limit_small head.kind) (field_some _ _ _ Label-is) in
+      let (from-text, from_low, from-high) = plain_sound covered (head.words - 1) four.second from last_small (there _ _ _ from_is) in
+      let (count-text, count_low, count-high) = plain_sound 1 (head.words - from) four.third count (rest_small from) (there _ _ _ count-is) in
+      let (label-text, _, label-fits) = plain_sound 0 (label_limit head.kind) four.fourth label (limit_small head.kind) (there _ _ _ Label-is) in
       let four_is = same_four four (codes "lab") (decimal from) (decimal count) (decimal label) name from-text count-text label-text in
       subst (λ lab. (four ≡ lab_text lab) × (lab_fits head covered lab ≡ true)) (same_ok (record { from = from; count = count; label = label }) lab then-c) (
         four_is,
@@ -95,8 +95,8 @@ module _ (head : Head) (head-fits : HeadFits head) (covered : ℕ) where
             (le-leb label (label_limit head.kind) label-fits),
       )
 
-  pub lab_complete : (lab : Lab) → lab_fits head covered lab ≡ true → (lab_in head covered (lab_text lab) ≡ Ok lab) × ClearFour (lab_text lab)
-  lab_complete lab fits =
+  pub lab_complete : (n : ℕ) (lab : Lab) → lab_fits head covered lab ≡ true → (lab_in head covered n (lab_text lab) ≡ Ok lab) × ClearFour (lab_text lab)
+  lab_complete n lab fits =
       let (front, label-leb) = and_parts _ (leb lab.label (label_limit head.kind)) fits in
       let (start, inside-leb) = and_parts _ (leb (lab.from + lab.count) head.words) front in
       let (from-leb, count-leb) = and_parts (leb covered lab.from) (leb 1 lab.count) start in
@@ -108,8 +108,8 @@ module _ (head : Head) (head-fits : HeadFits head) (covered : ℕ) where
       let from-small : lab.from < 2 ^ 64 = omega arith in
       let count_small : lab.count < 2 ^ 64 = omega arith in
       let label_small : lab.label < 2 ^ 64 = omega arith in (
-        field_then 2 _ _ _ (plain_complete covered (head.words - 1) lab.from last_small from_low (omega arith))
-            ∙ field_then 3 _ _ _ (plain_complete 1 (head.words - lab.from) lab.count (rest_small lab.from) some (omega arith))
-            ∙ field_then 4 _ _ _ (plain_complete 0 (label_limit head.kind) lab.label small (omega arith) label-fits),
+        there_then _ _ _ _ (plain_complete covered (head.words - 1) lab.from last_small from_low (omega arith))
+            ∙ there_then _ _ _ _ (plain_complete 1 (head.words - lab.from) lab.count (rest_small lab.from) some (omega arith))
+            ∙ there_then _ _ _ _ (plain_complete 0 (label_limit head.kind) lab.label small (omega arith) label-fits),
         (refl, decimal_clear lab.from from-small, decimal_clear lab.count count_small, decimal_clear lab.label label_small),
       )

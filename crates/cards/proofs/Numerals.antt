@@ -1,6 +1,7 @@
 -- Lemmas on numbers as cards write them: what is read is what `decimal` writes.
-use Rattle.std.proofs.Common.{◌≡◌, ℕ, ◌^◌, ◌<◌, ◌≤◌, Bool, true, false, cond, not, ◌&&◌, eqb, leb, List, [], ◌∷◌, length, get_or, Some, None, Ok, Err, decimal, Result, sym, refl, ap, ◌∙◌, ⊎_elim, arith, rules}
+use Rattle.std.proofs.Common.{◌≡◌, ℕ, ◌+◌, ◌-◌, ◌*◌, ◌^◌, ◌<◌, ◌≤◌, Bool, true, false, cond, not, ◌&&◌, eqb, leb, List, [], ◌∷◌, length, get_or, Some, None, Ok, Err, decimal, Result, sym, refl, ap, ◌∙◌, ⊎_elim, arith, rules}
 use Rattle.std.specs.Char.{is_ascii_digit}
+use Rattle.std.specs.List.{fold}
 use Rattle.std.specs.Str.{all_ascii_digits}
 use Rattle.std.proofs.lemmas.Fmt.{decimal_nonempty, first_decimal, length-decimal-le, digits_decimal, digits_value-decimal, decimal-digits_value}
 use Rattle.std.proofs.lemmas.Str.Parse.{IsNumeralModel, numerals_by_fold}
@@ -8,12 +9,12 @@ use Rattle.std.proofs.lemmas.Bool.{and_parts, and_from, and_left, and_right, not
 use Rattle.std.proofs.lemmas.Bool.Decides.{nat_tests}
 use Rattle.refusals.specs.declared.cards.Cause.{Cause}
 use Rattle.cards.specs.Text.{Lacks}
-use Rattle.cards.specs.Numbers.{onward, value_of, is_numeral, leads_with_zero, number_in, plain_in}
+use Rattle.cards.specs.Numbers.{value_of, is_numeral, leads_with_zero, number_in, plain_in}
 use Rattle.cards.proofs.Outcomes.{same_ok, never_some, passed, passed_not}
 
 -- `value_of` and `all_ascii_digits` are words for numbers and their digits
-own : IsNumeralModel (λ ds. all_ascii_digits ds ≡ true) (onward 0)
-own = numerals_by_fold _ (search rules) onward (search rules)
+own : IsNumeralModel (λ ds. all_ascii_digits ds ≡ true) value_of
+own = numerals_by_fold _ (search rules) (fold (λ n digit. 10 * n + (digit - 48))) (search rules)
 
 -- what was read passed each test
 number_tests : (limit : ℕ) (text : List ℕ) (n : ℕ) → number_in limit text ≡ Ok n

@@ -1,7 +1,8 @@
 -- What an outcome that is no refusal says of the steps that led to it.
 use Rattle.std.proofs.Common.{◌≡◌, ℕ, Bool, true, false, cond, Some, None, Ok, Err, Option, Result, sym, refl, ap, arith}
+use Rattle.std.specs.Option.{ok_or}
 use Rattle.refusals.specs.declared.cards.Cause.{Cause}
-use Rattle.cards.specs.Heads.{and_then, or_field}
+use Rattle.cards.specs.Heads.{and_then}
 use Rattle.cards.specs.Rows.{map_ok, three}
 
 -- two outcomes that are equal, and two that never are
@@ -28,13 +29,17 @@ pub then_steps : {A B E : Type 0} (r : Result A E) (next : A → Result B E) (y 
 then_steps (Ok x) next y is = (x, refl, is)
 then_steps (Err e) next y is = never_ok _ e y is
 
--- a field that had to be read, and the step after it
-pub field_some : {A : Type 0} (field : ℕ) (o : Option A) (x : A) → or_field field o ≡ Ok x → o ≡ Some x
-field_some field None x is = never_ok _ field x is
-field_some field (Some y) x is = cc
+-- a value that had to be there, and the step after it
+pub there : {A E : Type 0} (e : E) (o : Option A) (x : A) → ok_or o e ≡ Ok x → o ≡ Some x
+there e None x is = never_ok _ e x is
+there e (Some y) x is = cc
 
-pub field_then : {A B : Type 0} (field : ℕ) (o : Option A) (x : A) (next : A → Result B ℕ) → o ≡ Some x → and_then (or_field field o) next ≡ next x
-field_then field o x next is = ap (λ o. and_then (or_field field o) next) is
+pub not_there : {A E : Type 0} (e d : E) (o : Option A) → ok_or o e ≡ Err d → (o ≡ None) × (e ≡ d)
+not_there e d None is = (refl, cc)
+not_there e d (Some x) is = never_ok _ _ _ (sym is)
+
+pub there_then : {A B E : Type 0} (e : E) (o : Option A) (x : A) (next : A → Result B E) → o ≡ Some x → and_then (ok_or o e) next ≡ next x
+there_then e o x next is = ap (λ o. and_then (ok_or o e) next) is
 
 -- what a row was made of
 pub map_step : {A B E : Type 0} (r : Result A E) (f : A → B) (y : B) → map_ok r f ≡ Ok y → (x : A) × (r ≡ Ok x) × (f x ≡ y)

@@ -34,13 +34,11 @@ some_part b (x ∷ text) =
 
 -- a text around its i-th byte, as the code reads it
 pub around : (text : List ℕ) (i byte : ℕ) → i < length text → get_or text i 0 ≡ byte
-    → text ≡ take (i - 0) text ++ byte ∷ take (length text - (i + 1)) (drop (i + 1) text)
+    → text ≡ take i text ++ byte ∷ take (length text - (i + 1)) (drop (i + 1) text)
 around text i byte inside is =
-    let whole : i ≡ i - 0 = omega arith in
     sym (take-append-drop i text) ∙ ap (λ rest. take i text ++ rest) (drop_more text i 0 inside)
     ∙ ap (λ x. take i text ++ x ∷ drop (i + 1) text) is
     ∙ ap (λ rest. take i text ++ byte ∷ rest) (sym (take_rest text (i + 1)))
-    ∙ ap (λ n. take n text ++ byte ∷ take (length text - (i + 1)) (drop (i + 1) text)) whole
 
 -- a line's fields, one by one
 pub field_first : (line field rest : List ℕ) → line ≡ field ++ 44 ∷ rest → Lacks 44 field → fields_of line ≡ field ∷ fields_of rest

@@ -1,43 +1,40 @@
 -- What a line adds to a card, way by way.
 use Rattle.std.proofs.Common.{◌≡◌, ℕ, suc, ◌+◌, ◌<◌, true, false, leb, List, ◌∷◌, length, Some, None, Ok, Err, codes, Option, Result, sym, refl, ap, ◌∙◌, subst, add-one}
 use Rattle.std.specs.Str.{bytes_eq}
-use Rattle.std.proofs.lemmas.Bool.{cond-true, cond-false, lt-leb}
+use Rattle.std.proofs.lemmas.Bool.{cond-true, cond-false, eq-eqb, lt-leb}
 use Rattle.refusals.specs.declared.cards.CardRefusal.{CardRefusal}
 use Rattle.refusals.specs.declared.cards.CardRefusal.TheVariants as refusal
 use Rattle.cards.specs.declared.words.Word.{Word}
-use Rattle.cards.specs.Text.{Four, fields_of, four_of}
+use Rattle.cards.specs.Text.{Four}
 use Rattle.cards.specs.Fields.{part_of}
 use Rattle.cards.specs.Words.{word_of}
 use Rattle.cards.specs.declared.draft.Draft.{Draft}
 use Rattle.cards.specs.Drafts.{Drafts, Steps}
-use Rattle.cards.specs.Heads.{and_then}
+use Rattle.cards.specs.declared.heads.Lab.{Lab}
+use Rattle.cards.specs.Heads.{and_then, lab_in}
 use Rattle.cards.specs.Cards.{Card}
-use Rattle.cards.specs.Reading.{lab_line, row_line, line_by_word, line_in, lines_in, with_row}
-use Rattle.cards.specs.Rows.{row_in}
+use Rattle.cards.specs.Reading.{covered_by, with_lab, with_row, counted_fields, lab_line, row_line, line_by_word, line_in, lines_in}
+use Rattle.cards.specs.Rows.{map_ok, row_in}
 use Rattle.routine.specs.declared.rows.Row.{Row}
 use Rattle.cards.proofs.Outcomes.{never_ok}
-
--- the rest of a line, once it is known whether it has four fields
-abbrev on_four : Card → ℕ → Option Four → Result Card CardRefusal
-on_four card n found = and_then (elim found [ None ↦ Err (refusal.FieldCount n) | Some four ↦ Ok four ]) (line_by_word card n)
 
 -- a row by its word, if it has one
 abbrev on_word : Card → ℕ → Four → Option Word → Result Card CardRefusal
 on_word card n four found = elim found [ None ↦ Err (refusal.UnknownWord n) | Some word ↦ row_line card n word four ]
 
 module _ (card : Card) (n : ℕ) (line : List ℕ) where
-  pub line_short : four_of (fields_of line) ≡ None → line_in card n line ≡ Err (refusal.FieldCount n)
+  pub line_short : (e : CardRefusal) → counted_fields n line ≡ Err e → line_in card n line ≡ Err e
   unfolding line_in
-  line_short none = ap (on_four card n) none
+  line_short e short = ap (λ counted. and_then counted (line_by_word card n)) short
 
-  module _ (four : Four) (some : four_of (fields_of line) ≡ Some four) where
+  module _ (four : Four) (some : counted_fields n line ≡ Ok four) where
     pub line_lab : bytes_eq four.first (codes "lab") ≡ true → line_in card n line ≡ lab_line card n four
     unfolding line_in
-    line_lab lab = ap (on_four card n) some ∙ cond-true (bytes_eq four.first (codes "lab")) _ _ lab
+    line_lab lab = ap (λ counted. and_then counted (line_by_word card n)) some ∙ cond-true (bytes_eq four.first (codes "lab")) _ _ lab
 
     line_other : bytes_eq four.first (codes "lab") ≡ false → line_in card n line ≡ on_word card n four (word_of (part_of four.first))
     unfolding line_in
-    line_other other = ap (on_four card n) some ∙ cond-false (bytes_eq four.first (codes "lab")) _ _ other
+    line_other other = ap (λ counted. and_then counted (line_by_word card n)) some ∙ cond-false (bytes_eq four.first (codes "lab")) _ _ other
 
     pub line_unknown : bytes_eq four.first (codes "lab") ≡ false → word_of (part_of four.first) ≡ None → line_in card n line ≡ Err (refusal.UnknownWord n)
     line_unknown other none = line_other other ∙ ap (on_word card n four) none
@@ -50,6 +47,11 @@ module _ (card : Card) (n : ℕ) (line : List ℕ) where
 pub steps_by : (draft : Draft) (r : Result (Unit {0}) CardRefusal) {step rule : Result Card CardRefusal} → step ≡ rule → Steps rule draft r
     → Steps step draft r
 steps_by draft r same steps = subst (λ s. Steps s draft r) (sym same) steps
+
+-- a `lab` line before all rows is added
+pub lab_taken : (card : Card) (n : ℕ) (four : Four) (lab : Lab) → length card.rows ≡ 0 → lab_in card.head (covered_by card.labs) n four ≡ Ok lab
+    → lab_line card n four ≡ Ok (with_lab card lab)
+lab_taken card n four lab none is = cond-true _ _ _ (eq-eqb (length card.rows) 0 none) ∙ ap (λ read. map_ok read (with_lab card)) is
 
 -- a row that is not the 257th is added
 pub row_taken : (card : Card) (n : ℕ) (word : Word) (four : Four) (row : Row) → length card.rows < 256

@@ -1,5 +1,5 @@
 -- Lemmas on whole cards: reading and writing are inverse.
-use Rattle.std.proofs.Common.{◌≡◌, ℕ, ◌+◌, ◌-◌, ◌≤◌, true, ◌&&◌, eqb, leb, List, [], ◌∷◌, ◌++◌, length, get_or, take, Ok, sym, refl, ap, ◌∙◌, subst, arith}
+use Rattle.std.proofs.Common.{◌≡◌, ℕ, ◌+◌, ◌-◌, ◌≤◌, true, ◌&&◌, eqb, leb, List, [], ◌∷◌, ◌++◌, length, get_or, take, Ok, Result, sym, refl, ap, ◌∙◌, subst, arith}
 use Rattle.std.specs.List.{flat_map}
 use Rattle.std.proofs.ByRecursion.{All-get_or, All-from_get_or, All-weaker}
 use Rattle.std.proofs.lemmas.List.{append_assoc, append-nil, length_push, get_or_push, take_more, take_all}
@@ -11,7 +11,12 @@ use Rattle.cards.specs.Text.{Four, lines_of}
 use Rattle.cards.specs.Heads.{and_then}
 use Rattle.cards.specs.Cards.{Card, line_text, head_text, lab_text, row_text, written, labs_fit, is32, WellFormed}
 use Rattle.cards.specs.Reading.{head_only, head_line, lines_in, whole_in, extent_fits, card_in, read_card}
+use Rattle.refusals.specs.declared.cards.CardRefusal.{CardRefusal}
+use Rattle.routine.specs.declared.rows.Row.{Row}
+use Rattle.cards.specs.declared.accepted.Accepted.{Accepted}
 use Rattle.cards.specs.Laws.{ReadingLaws}
+use Rattle.cards.specs.Reads.{Reads, Ends}
+use Rattle.cards.proofs.Accepting.{reads}
 use Rattle.cards.proofs.Outcomes.{never_ok, passed, then_steps}
 use Rattle.cards.proofs.RowLines.{Fitting}
 use Rattle.cards.proofs.LineTexts.{ended_by, Ended, bare, line_bare, line_found, lines_rejoined}
@@ -63,9 +68,9 @@ card_sound (first ∷ rest) card is =
     let (last, last-is, then-b) = then_steps (lines_in (head_only head) 2 rest) whole_in card then-a in
     let (head-text, head-fits) = head_line_sound first head head-is in
     let (fits, text) = lines_sound (head_only head) (record { head = head-fits; labs = refl; rows = tt; count = omega arith }) 2 rest last last-is in
-    let (same, whole) = whole_sound last card fits.count then-b in
+    let (same, whole) = whole_sound last card then-b in
     subst (λ card. Fits card × Whole card.rows × (written card ≡ flat_map (ended_by 10) (first ∷ rest))) same
-    (fits, whole, text ∙ ap (λ t. t ++ flat_map (ended_by 10) rest) (written_head head ∙ head-text))
+    (fits, whole fits.count, text ∙ ap (λ t. t ++ flat_map (ended_by 10) rest) (written_head head ∙ head-text))
 
 well_formed : (card : Card) → Fits card → Whole card.rows → length (written card) ≤ 32768 → WellFormed card
 well_formed card fits whole short =
@@ -126,3 +131,8 @@ complete card well =
 
 pub reading_laws : ReadingLaws
 reading_laws = record { sound = sound; complete = complete; first = first_fault }
+
+-- so what the rules make of a text is what reading promises of it
+pub reads_by : (text : List ℕ) (rows rows' : List Row) (labels labels' : List ℕ) (r : Result Accepted CardRefusal)
+    → Ends text rows labels (read_card text) r rows' labels' → Reads text rows labels r rows' labels'
+reads_by text rows rows' labels labels' r ends = reads reading_laws text rows rows' labels labels' r ends

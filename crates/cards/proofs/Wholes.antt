@@ -1,6 +1,6 @@
 -- What the rows tell together.
-use Rattle.std.proofs.Common.{◌≡◌, ℕ, zero, suc, ◌+◌, ◌-◌, ◌<◌, ◌≤◌, Bool, true, false, cond, eqb, leb, List, [], ◌∷◌, length, get_or, Some, None, Ok, Err, Option, Result, sym, refl, ap, ◌∙◌, ⊎_elim, zero-add, arith}
-use Rattle.std.proofs.lemmas.Bool.{both_ways, cond-true, cond-false, and_parts, and_cases, and_from, le-leb, leb-true, leb-false, eq-eqb, ne_eqb, eqb-false}
+use Rattle.std.proofs.Common.{◌≡◌, ℕ, zero, suc, ◌+◌, ◌-◌, ◌<◌, ◌≤◌, Bool, true, false, cond, eqb, leb, List, [], ◌∷◌, length, get_or, Some, None, Ok, Err, Option, Result, sym, refl, ap, ◌∙◌, zero-add, arith}
+use Rattle.std.proofs.lemmas.Bool.{both_ways, cond-true, cond-false, and_parts, and_from, le-leb, leb-true, ne_eqb, eqb-false}
 use Rattle.refusals.specs.declared.cards.CardRefusal.{CardRefusal}
 use Rattle.refusals.specs.declared.cards.CardRefusal.TheVariants as refusal
 use Rattle.routine.specs.declared.rows.Row.{Row}
@@ -72,13 +72,6 @@ pub record Whole (rows : List Row) : Type 0 where
   pub last : last_ends rows ≡ true
 
 module _ (card : Card) where
-  pub whole_none : length card.rows ≤ 256 → row_count_fits card.rows ≡ false → whole_in card ≡ Err refusal.NoRow
-  whole_none few none =
-      ⊎_elim
-      (λ empty. cond-true (eqb (length card.rows) 0) _ _ (eq-eqb (length card.rows) 0 (omega (arith, leb-false 1 (length card.rows) empty))))
-      (λ many. absurd (omega (arith, leb-false (length card.rows) 256 many)))
-      (and_cases (leb 1 (length card.rows)) (leb (length card.rows) 256) none)
-
   module _ (some : row_count_fits card.rows ≡ true) where
     whole_some : whole_in card ≡ on_failing card (first_failing (target_fits (length card.rows)) 0 card.rows)
     whole_some =
@@ -102,8 +95,8 @@ module _ (card : Card) where
 pub whole_ok : (card : Card) → Whole card.rows → whole_in card ≡ Ok card
 whole_ok card whole = whole_ends card whole.count whole.targets whole.last
 
-pub whole_sound : (card read : Card) → length card.rows ≤ 256 → whole_in card ≡ Ok read → (card ≡ read) × Whole card.rows
-whole_sound card read few is =
+pub whole_sound : (card read : Card) → whole_in card ≡ Ok read → (card ≡ read) × (length card.rows ≤ 256 → Whole card.rows)
+whole_sound card read is =
     let rows = card.rows in
     let (some, then-a) = passed_not (eqb (length rows) 0) _ _ read is in
     let (none, then-b) = not_found (λ i. refusal.Target (line_of_row card i)) _ (first_failing (target_fits (length rows)) 0 rows) read then-a in
@@ -111,9 +104,10 @@ whole_sound card read few is =
     let not-empty = eqb-false (length rows) 0 some in
     let at_least : 1 ≤ length rows = omega arith in (
       same_ok card read then-c,
-      record {
-        count = and_from _ _ (le-leb 1 (length rows) at_least) (le-leb (length rows) 256 few);
-        targets = every_from (target_fits (length rows)) rows (λ j h. rw zero-add at (each_passes (target_fits (length rows)) 0 rows none j h));
-        last = last;
-      },
+      λ few.
+          record {
+            count = and_from _ _ (le-leb 1 (length rows) at_least) (le-leb (length rows) 256 few);
+            targets = every_from (target_fits (length rows)) rows (λ j h. rw zero-add at (each_passes (target_fits (length rows)) 0 rows none j h));
+            last = last;
+          },
     )

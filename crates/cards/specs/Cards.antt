@@ -1,6 +1,6 @@
 -- A card, how it is written as bytes, and which cards are well formed.
 use Rattle.std.specs.Prelude.{◌≡◌, ℕ, ◌+◌, ◌≤◌, Bool, true, cond, ◌&&◌, List, [], ◌∷◌, ◌++◌, map, length, codes, decimal, nat_le, nat_lt}
-use Rattle.std.specs.List.{range_with_len, flat_map, AllByRecursion}
+use Rattle.std.specs.List.{range_with_len, flat_map, fold, AllByRecursion}
 use Rattle.routine.specs.declared.rows.Operand.{Operand}
 use Rattle.routine.specs.declared.rows.Operand.TheVariants as operand
 use Rattle.routine.specs.declared.rows.Row.{Row}
@@ -24,14 +24,9 @@ pub record Card : Type 0 where
 abbrev pub covers : Lab → ℕ → Bool
 covers lab i = nat_le lab.from i && nat_lt i (lab.from + lab.count)
 
--- the label of word i once some `lab` lines were read, if it was `before` until then; no two lines cover the same word
-abbrev pub label_after : ℕ → List Lab → ℕ → ℕ
-label_after before [] i = before
-label_after before (lab ∷ labs) i = label_after (cond (covers lab i) lab.label before) labs i
-
--- the label of word i: the one that a `lab` line gives it, else the lowest, 0
+-- the label of word i: the one that a `lab` line gives it, else the lowest, 0; no two lines cover the same word
 abbrev pub label_at : List Lab → ℕ → ℕ
-label_at labs i = label_after 0 labs i
+label_at labs i = fold (λ label lab. cond (covers lab i) lab.label label) 0 labs
 
 -- the labels of all words, as numbers
 abbrev pub labels_of : Card → List ℕ

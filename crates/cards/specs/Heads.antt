@@ -1,6 +1,9 @@
 -- A card's head and its `lab` lines.
 use Rattle.std.specs.Prelude.{ℕ, ◌-◌, cond, List, Some, None, Ok, Err, codes, Option, Result}
+use Rattle.std.specs.Option.{ok_or}
 use Rattle.std.specs.Str.{bytes_eq}
+use Rattle.refusals.specs.declared.cards.CardRefusal.{CardRefusal}
+use Rattle.refusals.specs.declared.cards.CardRefusal.TheVariants as refusal
 use Rattle.cards.specs.declared.heads.LabelKind.{LabelKind}
 use Rattle.cards.specs.declared.heads.LabelKind.TheVariants.{Makers, Grades}
 use Rattle.cards.specs.declared.heads.Head.{Head}
@@ -22,31 +25,26 @@ abbrev pub label_limit : LabelKind → ℕ
 label_limit Makers = 65535
 label_limit Grades = 15
 
--- what was read of a field, if anything; else the field is the wrong one
-abbrev pub or_field : {A : Type 0} → ℕ → Option A → Result A ℕ
-or_field field None = Err field
-or_field field (Some a) = Ok a
-
 -- the next step, if there is no refusal yet
 abbrev pub and_then : {A B E : Type 0} → Result A E → (A → Result B E) → Result B E
 and_then (Ok a) next = next a
 and_then (Err e) next = Err e
 
 -- the head that four fields write, or the first wrong field: `card`, the kind, the reader, the number of words
-abbrev pub head_in : Four → Result Head ℕ
+abbrev pub head_in : Four → Result Head CardRefusal
 head_in four =
     cond (bytes_eq four.first (codes "card"))
-    (and_then (or_field 2 (kind_named four.second)) (λ kind.
-    and_then (or_field 3 (plain_in 0 (label_limit kind) four.third)) (λ reader.
-    and_then (or_field 4 (plain_in 1 4096 four.fourth)) (λ words.
+    (and_then (ok_or (kind_named four.second) (refusal.Head 2)) (λ kind.
+    and_then (ok_or (plain_in 0 (label_limit kind) four.third) (refusal.Head 3)) (λ reader.
+    and_then (ok_or (plain_in 1 4096 four.fourth) (refusal.Head 4)) (λ words.
     Ok (record { kind = kind; reader = reader; words = words })))))
-    (Err 1)
+    (Err (refusal.Head 1))
 
--- the `lab` line that four fields write, or the first wrong field: from where, how many words, their label. It begins no sooner than
--- the `lab` lines before it end, at `covered`, and stays inside the words
-abbrev pub lab_in : Head → ℕ → Four → Result Lab ℕ
-lab_in head covered four =
-    and_then (or_field 2 (plain_in covered (head.words - 1) four.second)) (λ from.
-    and_then (or_field 3 (plain_in 1 (head.words - from) four.third)) (λ count.
-    and_then (or_field 4 (plain_in 0 (label_limit head.kind) four.fourth)) (λ label.
+-- the `lab` line that the four fields of line n write, or the first wrong field: from where, how many words, their label. It begins
+-- no sooner than the `lab` lines before it end, at `covered`, and stays inside the words
+abbrev pub lab_in : Head → ℕ → ℕ → Four → Result Lab CardRefusal
+lab_in head covered n four =
+    and_then (ok_or (plain_in covered (head.words - 1) four.second) (refusal.Lab n 2)) (λ from.
+    and_then (ok_or (plain_in 1 (head.words - from) four.third) (refusal.Lab n 3)) (λ count.
+    and_then (ok_or (plain_in 0 (label_limit head.kind) four.fourth) (refusal.Lab n 4)) (λ label.
     Ok (record { from = from; count = count; label = label }))))

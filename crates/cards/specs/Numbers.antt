@@ -1,17 +1,13 @@
 -- Decimal numbers as cards write them: digits without a leading zero, up to a limit.
-use Rattle.std.specs.Prelude.{ℕ, ◌+◌, ◌-◌, ◌*◌, Bool, cond, not, ◌&&◌, List, [], ◌∷◌, length, Some, None, Ok, Err, Option, Result, ◌==◌, nat_le, nat_lt, slice_index}
+use Rattle.std.specs.Prelude.{ℕ, ◌+◌, ◌-◌, ◌*◌, Bool, cond, not, ◌&&◌, List, length, Some, None, Ok, Err, Option, Result, ◌==◌, nat_le, nat_lt, slice_index}
+use Rattle.std.specs.List.{fold}
 use Rattle.std.specs.Str.{all_ascii_digits}
 use Rattle.refusals.specs.declared.cards.Cause.{Cause}
 use Rattle.refusals.specs.declared.cards.Cause.TheVariants.{Form, LeadingZero, BeyondLimit}
 
--- the number that digits write, going on from the number before them
-abbrev pub onward : ℕ → List ℕ → ℕ
-onward n [] = n
-onward n (digit ∷ digits) = onward (10 * n + (digit - 48)) digits
-
 -- the number that digits write
 abbrev pub value_of : List ℕ → ℕ
-value_of digits = onward 0 digits
+value_of digits = fold (λ n digit. 10 * n + (digit - 48)) 0 digits
 
 -- one or more digits 0 to 9, and nothing else
 abbrev pub is_numeral : List ℕ → Bool

@@ -1,5 +1,7 @@
 -- What reading makes of a text: the card that it writes, or the first refusal.
 use Rattle.std.specs.Prelude.{ℕ, suc, ◌+◌, ◌-◌, Bool, cond, ◌&&◌, List, [], ◌∷◌, ◌++◌, length, Some, None, Ok, Err, codes, Option, Result, ◌==◌, nat_le, slice_index}
+use Rattle.std.specs.List.{fold}
+use Rattle.std.specs.Option.{ok_or}
 use Rattle.std.specs.Str.{bytes_eq}
 use Rattle.refusals.specs.declared.cards.CardRefusal.{CardRefusal}
 use Rattle.refusals.specs.declared.cards.CardRefusal.TheVariants as refusal
@@ -11,14 +13,13 @@ use Rattle.cards.specs.declared.words.Word.{Word}
 use Rattle.cards.specs.Text.{Four, lines_of, fields_of, four_of}
 use Rattle.cards.specs.Fields.{part_of}
 use Rattle.cards.specs.Words.{word_of}
-use Rattle.cards.specs.Rows.{row_in}
+use Rattle.cards.specs.Rows.{map_ok, row_in}
 use Rattle.cards.specs.Heads.{and_then, head_in, lab_in}
 use Rattle.cards.specs.Cards.{Card}
 
 -- the word after the last that `lab` lines cover
 abbrev pub covered_from : ℕ → List Lab → ℕ
-covered_from covered [] = covered
-covered_from covered (lab ∷ labs) = covered_from (lab.from + lab.count) labs
+covered_from covered labs = fold (λ _ lab. lab.from + lab.count) covered labs
 
 abbrev pub covered_by : List Lab → ℕ
 covered_by labs = covered_from 0 labs
@@ -36,17 +37,17 @@ with_row card row = record { head = card.head; labs = card.labs; rows = card.row
 
 -- line n, its fields counted
 abbrev pub counted_fields : ℕ → List ℕ → Result Four CardRefusal
-counted_fields n line = elim (four_of (fields_of line)) [ None ↦ Err (refusal.FieldCount n) | Some four ↦ Ok four ]
+counted_fields n line = ok_or (four_of (fields_of line)) (refusal.FieldCount n)
 
 -- the first line
 abbrev pub head_line : List ℕ → Result Head CardRefusal
-head_line line = and_then (counted_fields 1 line) (λ four. elim (head_in four) [ Ok head ↦ Ok head | Err field ↦ Err (refusal.Head field) ])
+head_line line = and_then (counted_fields 1 line) head_in
 
 -- line n as a `lab` line: it stands before any row
 abbrev pub lab_line : Card → ℕ → Four → Result Card CardRefusal
 lab_line card n four =
     cond (length card.rows == 0)
-    (elim (lab_in card.head (covered_by card.labs) four) [ Ok lab ↦ Ok (with_lab card lab) | Err field ↦ Err (refusal.Lab n field) ])
+    (map_ok (lab_in card.head (covered_by card.labs) n four) (with_lab card))
     (Err (refusal.Lab n 1))
 
 -- line n as a row, which may be no row 257

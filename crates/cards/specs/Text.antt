@@ -46,11 +46,6 @@ four_of (a ∷ b ∷ c ∷ d ∷ e ∷ more) = None
 abbrev pub four_texts : Fields → Four
 four_texts fields = record { first = fields.first.now; second = fields.second.now; third = fields.third.now; fourth = fields.fourth.now }
 
--- the same, if it found four
-abbrev pub four_in : Option Fields → Option Four
-four_in None = None
-four_in (Some fields) = Some (four_texts fields)
-
 -- what a reader has still to read
 abbrev pub left_in : Reader → List ℕ
 left_in reader = drop reader.at reader.card.now

@@ -1,5 +1,6 @@
 -- The words that rows begin with.
-use Rattle.std.specs.Prelude.{ℕ, cond, List, [], ◌∷◌, Some, None, codes, Option}
+use Rattle.std.specs.Prelude.{ℕ, List, [], ◌∷◌, None, codes, Option}
+use Rattle.std.specs.List.{find}
 use Rattle.std.specs.Str.{bytes_eq}
 use Rattle.routine.specs.declared.rows.Operation.{Operation}
 use Rattle.routine.specs.declared.rows.Operation.TheVariants as op
@@ -46,8 +47,7 @@ all_words =
 
 -- the word of a name, among some words
 unfoldable pub named : List ℕ → List Word → Option Word
-named name [] = None
-named name (w ∷ ws) = cond (bytes_eq name (name_of w)) (Some w) (named name ws)
+named name words = find (λ w. bytes_eq name (name_of w)) words
 
 -- the word in a field
 abbrev pub word_of : Part → Option Word

@@ -1,8 +1,9 @@
 // What was read of a card so far.
-ghost use Rattle.std.specs.Prelude.{◌≡◌, ◌≤◌, true, take};
+ghost use Rattle.std.specs.Prelude.{◌≡◌, ◌≤◌, true};
 ghost use Rattle.routine.specs.Limits.{every_field_fits};
 
 use crate::heads::Head;
+use arrayvec::ArrayVec;
 use routine::rows::Row;
 use routine::{MAX_ROWS, MAX_WORDS};
 
@@ -13,13 +14,12 @@ pub(crate) struct Draft {
     // how many `lab` lines there were, and the word after the last that they cover
     pub labs: u32,
     pub covered: u32,
+    // kept a table of fixed size: only words within the head's number are given labels
     pub labels: [u32; MAX_WORDS],
-    pub rows: [Row; MAX_ROWS],
-    pub count: usize,
+    pub rows: ArrayVec<Row, MAX_ROWS>,
     ghost some: { 1 ≤ head.words },
     ghost small: { head.words ≤ 4096 },
-    ghost few: { count ≤ 256 },
-    ghost fits: { every_field_fits (take count rows) head.words ≡ true },
+    ghost fits: { every_field_fits rows.items head.words ≡ true },
     // each `lab` line covers a word at least
     ghost counted: { labs ≤ covered },
     ghost inside: { covered ≤ head.words },

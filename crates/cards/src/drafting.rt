@@ -1,121 +1,102 @@
 // Reading a card into a draft, line by line.
-ghost use Rattle.std.specs.Prelude.{◌≡◌, ℕ, ◌+◌, ◌<◌, ◌≤◌, true, ◌&&◌, length, take, if◌then◌else◌, Err, nat_le, nat_lt, slice_index};
-ghost use Rattle.routine.specs.Limits.{fields_fit, DeclinedBy};
+ghost use Rattle.std.specs.Prelude.{◌≡◌, true, IfOk};
 ghost use Rattle.cards.specs.Text.{four_texts};
 ghost use Rattle.cards.specs.Cards.{Card, lab_fits};
-ghost use Rattle.cards.specs.Reading.{head_only, whole_in, with_lab, with_row, lab_line, row_line, line_in};
+ghost use Rattle.cards.specs.Heads.{lab_in};
+ghost use Rattle.cards.specs.Reading.{head_line, head_only, whole_in, lab_line, row_line, line_in};
 ghost use Rattle.cards.specs.Rows.{map_ok};
-ghost use Rattle.cards.specs.Drafts.{Drafts, Steps};
+ghost use Rattle.cards.specs.Drafts.{Drafts, Takes};
 
 use crate::draft::Draft;
-use crate::heads::{Head, Lab, lab_in};
-use crate::lines::{Fields, four_fields, is_same};
+use crate::heads::{Lab, head_in};
+use crate::lines::{Fields, four_fields};
+use crate::numbers::plain;
 use crate::rows::row_in;
 use crate::words::{Word, word_in};
+use arrayvec::ArrayVec;
 use refusals::{CardRefusal, Refusal};
-use routine::rows::Row;
-use routine::{MAX_ROWS, MAX_WORDS, Source, check};
-
-// Gives the label to the words from `from` up to `to`.
-fn paint(labels: &mut [u32], from: usize, to: usize, label: u32)
-    requires { (from ≤ to) × (to ≤ length labels.old) }
-    ensures { (k : ℕ) → slice_index labels.new k ≡ (if nat_le from k && nat_lt k to then label else slice_index labels.old k) }
-{
-    for i in from..to {
-        labels[i] = label;
-    }
-}
+use routine::{MAX_WORDS, Source, check};
 
 impl Draft {
-    // Only the head was read.
-    pub(crate) fn new(head: Head) -> Draft
-        requires { (1 ≤ head.words) × (head.words ≤ 4096) }
-        ensures { Drafts result (head_only head) }
+    // The draft of a card of which only the head was read, from its first line.
+    pub(crate) fn begin(line: &[u8]) -> Result<Draft, CardRefusal>
+        ensures head { map_ok result (λ draft. draft.head) ≡ head_line line.now }
+        ensures card { IfOk result (λ draft. Drafts draft (head_only draft.head)) }
     {
-        Draft {
+        let fields = four_fields(1, line)?;
+        let head = head_in(&fields)?;
+        Ok(Draft {
             head,
             labs: 0,
             covered: 0,
             labels: [0; MAX_WORDS],
-            rows: [Row::Halt; MAX_ROWS],
-            count: 0,
-        }
+            rows: ArrayVec::new(),
+        })
     }
 
-    fn add_lab(&mut self, lab: Lab)
-        requires { lab_fits self.old.head self.old.covered lab ≡ true }
-        ensures { (card : Card) → Drafts self.old card → Drafts self.new (with_lab card lab) }
+    // The `lab` line that the fields write, or the first wrong field. It begins no sooner than the `lab` lines before it end.
+    fn lab_in(&self, fields: &Fields) -> Result<Lab, CardRefusal>
+        ensures value { result ≡ lab_in self.now.head self.now.covered fields.now.line (four_texts fields.now) }
+        ensures bound { IfOk result (λ lab. lab_fits self.now.head self.now.covered lab ≡ true) }
     {
-        let end = lab.from + lab.count;
-        paint(&mut self.labels, lab.from as usize, end as usize, lab.label);
-        self.covered = end;
-        self.labs += 1;
+        let line = fields.line;
+        let last = self.head.words - 1;
+        let from = plain(fields.second, self.covered, last).ok_or(CardRefusal::Lab {
+            line,
+            field: 2,
+        })?;
+        let rest = self.head.words - from;
+        let count = plain(fields.third, 1, rest).ok_or(CardRefusal::Lab { line, field: 3 })?;
+        let limit = self.head.kind.label_limit();
+        let label = plain(fields.fourth, 0, limit).ok_or(CardRefusal::Lab { line, field: 4 })?;
+        Ok(Lab { from, count, label })
     }
 
-    fn add_row(&mut self, row: Row)
-        requires { (self.old.count < 256) × (fields_fit self.old.head.words row ≡ true) }
-        ensures { (card : Card) → Drafts self.old card → Drafts self.new (with_row card row) }
+    // Takes a line as a `lab` line.
+    fn take_lab(&mut self, fields: &Fields) -> Result<(), CardRefusal>
+        ensures { Takes (λ card. lab_line card fields.now.line (four_texts fields.now)) self.old self.new result }
     {
-        self.rows[self.count] = row;
-        self.count += 1;
-    }
-
-    // Takes line `number` as a `lab` line.
-    fn take_lab(&mut self, number: usize, fields: &Fields) -> Result<(), CardRefusal>
-        ensures { (card : Card) → Drafts self.old card → Steps (lab_line card number (four_texts fields.now)) self.new result }
-    {
-        if self.count != 0 {
+        if !self.rows.is_empty() {
             return Err(CardRefusal::Lab {
-                line: number,
+                line: fields.line,
                 field: 1,
             });
         }
-        match lab_in(self.head, self.covered, fields) {
-            Ok(lab) => {
-                self.add_lab(lab);
-                Ok(())
-            }
-            Err(field) => Err(CardRefusal::Lab {
-                line: number,
-                field,
-            }),
-        }
+        let lab = self.lab_in(fields)?;
+        let end = lab.from + lab.count;
+        self.labels[lab.from as usize..end as usize].fill(lab.label);
+        self.covered = end;
+        self.labs += 1;
+        Ok(())
     }
 
-    // Takes line `number` as a row.
-    fn take_row(&mut self, number: usize, word: Word, fields: &Fields) -> Result<(), CardRefusal>
-        ensures { (card : Card) → Drafts self.old card → Steps (row_line card number word (four_texts fields.now)) self.new result }
+    // Takes a line as a row.
+    fn take_row(&mut self, word: Word, fields: &Fields) -> Result<(), CardRefusal>
+        ensures { Takes (λ card. row_line card fields.now.line word (four_texts fields.now)) self.old self.new result }
     {
-        if self.count >= MAX_ROWS {
-            return Err(CardRefusal::ExtraRow { line: number });
+        let line = fields.line;
+        if self.rows.is_full() {
+            return Err(CardRefusal::ExtraRow { line });
         }
-        match row_in(self.head.words, word, fields) {
-            Ok(row) => {
-                self.add_row(row);
-                Ok(())
-            }
-            Err(fault) => Err(CardRefusal::RowField {
-                line: number,
-                field: fault.field,
-                cause: fault.cause,
-            }),
-        }
+        let row = row_in(self.head.words, word, fields).map_err(|fault| CardRefusal::RowField {
+            line,
+            field: fault.field,
+            cause: fault.cause,
+        })?;
+        self.rows.push(row);
+        Ok(())
     }
 
-    // Takes line `number`, which is not the head.
-    pub(crate) fn take_line(&mut self, number: usize, line: &[u8]) -> Result<(), CardRefusal>
-        ensures { (card : Card) → Drafts self.old card → Steps (line_in card number line.now) self.new result }
+    // Takes line `line`, which is not the head.
+    pub(crate) fn take_line(&mut self, line: usize, text: &[u8]) -> Result<(), CardRefusal>
+        ensures { Takes (λ card. line_in card line text.now) self.old self.new result }
     {
-        let Some(fields) = four_fields(line) else {
-            return Err(CardRefusal::FieldCount { line: number });
-        };
-        if is_same(fields.first, b"lab") {
-            return self.take_lab(number, &fields);
+        let fields = four_fields(line, text)?;
+        if fields.first == b"lab".as_slice() {
+            return self.take_lab(&fields);
         }
-        let Some(word) = word_in(fields.first) else {
-            return Err(CardRefusal::UnknownWord { line: number });
-        };
-        self.take_row(number, word, &fields)
+        let word = word_in(fields.first).ok_or(CardRefusal::UnknownWord { line })?;
+        self.take_row(word, &fields)
     }
 
     // The routine as a whole: what only all rows together can tell.
@@ -124,30 +105,23 @@ impl Draft {
     {
         let words = self.head.words as usize;
         let source = Source {
-            rows: &self.rows[0..self.count],
-            labels: &self.labels[0..words],
+            rows: self.rows.as_slice(),
+            labels: &self.labels[..words],
         };
+        // The head and the `lab` lines come before all rows.
+        let first = self.labs as usize + 2;
         match check(&source, words) {
             Ok(()) => Ok(()),
-            Err(refusal) => Err(self.on_card(refusal)),
-        }
-    }
-
-    // The refusal of the routine, by the line of the row that is to blame.
-    fn on_card(&self, refusal: Refusal) -> CardRefusal
-        requires { DeclinedBy (take self.now.count self.now.rows) self.now.head.words self.now.head.words refusal }
-        ensures { (card : Card) → Drafts self.now card → whole_in card ≡ Err result }
-    {
-        let first = self.labs as usize + 2;
-        match refusal {
-            Refusal::RowCount => CardRefusal::NoRow,
-            Refusal::Target { row } => CardRefusal::Target { line: first + row },
-            Refusal::Ending { row } => CardRefusal::Ending { line: first + row },
-            // Every field was read within its limit.
-            Refusal::WordCount
-            | Refusal::RowField { row: _ }
-            | Refusal::WorkTable
-            | Refusal::GradeRange => unreachable(),
+            Err(refusal) => match refusal {
+                Refusal::RowCount => Err(CardRefusal::NoRow),
+                Refusal::Target { row } => Err(CardRefusal::Target { line: first + row }),
+                Refusal::Ending { row } => Err(CardRefusal::Ending { line: first + row }),
+                // Every field was read within its limit.
+                Refusal::WordCount
+                | Refusal::RowField { row: _ }
+                | Refusal::WorkTable
+                | Refusal::GradeRange => unreachable(),
+            },
         }
     }
 }

@@ -5,9 +5,8 @@ ghost use Rattle.cards.specs.Fields.{part_of, part_in, register_of, constant_of,
 
 use crate::numbers::number;
 use refusals::Cause;
+use routine::LAST_REGISTER;
 use routine::rows::Operand;
-
-const MAX_REGISTER: u32 = 15;
 
 // A field by its first byte.
 #[derive(Clone, Copy)]
@@ -23,6 +22,7 @@ pub(crate) enum Field<'a> {
 }
 
 // What a field is, before it is known which place it stands in.
+#[tactic(auto, using(std::proofs::lemmas::Slice::first_rest))]
 pub(crate) fn field_of(text: &[u8]) -> Field<'_>
     ensures { part_in result ≡ part_of text.now }
 {
@@ -75,5 +75,6 @@ pub(crate) fn unused(text: &[u8]) -> Result<(), Cause>
 fn register_number(digits: &[u8]) -> Result<u8, Cause>
     ensures { result ≡ number_in 15 digits.now }
 {
-    Ok(number(digits, MAX_REGISTER)? as u8)
+    // Kept a cast: `try_from` would bring a second refusal, which never comes.
+    Ok(number(digits, u32::from(LAST_REGISTER))? as u8)
 }

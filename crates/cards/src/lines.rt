@@ -1,53 +1,48 @@
 // A card's lines, and a line's fields.
-ghost use Rattle.std.specs.Prelude.{◌≡◌, ◌+◌, ◌<◌, [], ◌∷◌, ◌++◌, length, Some, None};
-ghost use Rattle.std.specs.Str.{bytes_eq};
-ghost use Rattle.cards.specs.Text.{Lacks, lines_of, fields_of, four_of, four_in, left_in};
+ghost use Rattle.std.specs.Prelude.{◌≡◌, ◌+◌, ◌<◌, [], ◌∷◌, ◌++◌, length, IfOk, IfSome, IfNone, OnSome, MatchOption};
+ghost use Rattle.cards.specs.Rows.{map_ok};
+ghost use Rattle.cards.specs.Reading.{counted_fields};
+ghost use Rattle.cards.specs.Text.{Lacks, lines_of, four_texts, left_in};
 
 use crate::reader::Reader;
+use refusals::CardRefusal;
 
-// A line's four fields, as they stand on the card.
+// A line by its number and its four fields, as they stand on the card.
 #[derive(Clone, Copy)]
 pub(crate) struct Fields<'a> {
+    pub line: usize,
     pub first: &'a [u8],
     pub second: &'a [u8],
     pub third: &'a [u8],
     pub fourth: &'a [u8],
 }
 
-// Whether the text is just that word.
-pub(crate) fn is_same(text: &[u8], word: &[u8]) -> bool
-    ensures { result ≡ bytes_eq text.now word.now }
-{
-    text == word
-}
-
 // The text before the first such byte and the text after it, if there is such a byte.
 fn cut(text: &[u8], byte: u8) -> Option<(&[u8], &[u8])>
-    ensures { elim result [ None ↦ Lacks byte text.now | Some parts ↦ (text.now ≡ parts.0.now ++ byte ∷ parts.1.now) × Lacks byte parts.0.now ] }
+    ensures { MatchOption result (Lacks byte text.now) (λ parts. (text.now ≡ parts.0.now ++ byte ∷ parts.1.now) × Lacks byte parts.0.now) }
 {
-    for (i, x) in text.iter().enumerate() {
-        if *x == byte {
-            return Some((&text[0..i], &text[i + 1..]));
-        }
-    }
-    None
+    let at = text.iter().position(|x| *x == byte)?;
+    Some((&text[..at], &text[at + 1..]))
 }
 
-// The fields of a line, if there are exactly four.
-pub(crate) fn four_fields(line: &[u8]) -> Option<Fields<'_>>
-    ensures { four_in result ≡ four_of (fields_of line.now) }
+// The fields of line `line`, which have to be exactly four.
+pub(crate) fn four_fields(line: usize, text: &[u8]) -> Result<Fields<'_>, CardRefusal>
+    ensures texts { map_ok result four_texts ≡ counted_fields line text.now }
+    ensures line { IfOk result (λ fields. fields.line ≡ line) }
 {
-    let (first, rest) = cut(line, b',')?;
-    let (second, rest) = cut(rest, b',')?;
-    let (third, fourth) = cut(rest, b',')?;
+    let refusal = CardRefusal::FieldCount { line };
+    let (first, rest) = cut(text, b',').ok_or(refusal)?;
+    let (second, rest) = cut(rest, b',').ok_or(refusal)?;
+    let (third, fourth) = cut(rest, b',').ok_or(refusal)?;
     match cut(fourth, b',') {
-        None => Some(Fields {
+        None => Ok(Fields {
+            line,
             first,
             second,
             third,
             fourth,
         }),
-        Some(_) => None,
+        Some(_) => Err(refusal),
     }
 }
 
@@ -66,7 +61,10 @@ impl<'a> Reader<'a> {
 
     // The next line, if there is one. A last line that nothing ends is taken as it stands.
     pub(crate) fn next_line(&mut self) -> Option<&'a [u8]>
-        ensures { elim result [ None ↦ (left_in self.old ≡ []) × (self.new ≡ self.old) | Some line ↦ (lines_of (left_in self.old) ≡ line.now ∷ lines_of (left_in self.new)) × (self.new.line ≡ self.old.line + 1) × (length (left_in self.new) < length (left_in self.old)) ] }
+        ensures none { IfNone result ((left_in self.old ≡ []) × (self.new ≡ self.old)) }
+        ensures line { IfSome result (λ line. lines_of (left_in self.old) ≡ line.now ∷ lines_of (left_in self.new)) }
+        ensures number { OnSome result (self.new.line ≡ self.old.line + 1) }
+        ensures shorter { OnSome result (length (left_in self.new) < length (left_in self.old)) }
     {
         if self.at == self.card.len() {
             return None;

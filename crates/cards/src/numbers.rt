@@ -1,13 +1,11 @@
 // Decimal numbers as cards write them.
-ghost use Rattle.std.specs.Prelude.{◌≡◌, ◌≤◌, min, IfOk, Some, None};
+ghost use Rattle.std.specs.Prelude.{◌≡◌, ◌-◌, ◌^◌, ◌≤◌, min, IfOk, IfSome};
 ghost use Rattle.cards.specs.Numbers.{number_in, plain_in, is_numeral, leads_with_zero, value_of};
 
 use refusals::Cause;
 
-// Above every number that a card may hold.
-const TOO_LARGE: u64 = 1 << 32;
-
 // The number that the text writes, at most the limit.
+#[tactic(auto, unfolding(crate::specs::Numbers::number_in))]
 pub(crate) fn number(text: &[u8], limit: u32) -> Result<u32, Cause>
     ensures value { result ≡ number_in limit text.now }
     ensures bound { IfOk result (λ n. n ≤ limit) }
@@ -15,46 +13,36 @@ pub(crate) fn number(text: &[u8], limit: u32) -> Result<u32, Cause>
     if !is_numeral(text) {
         return Err(Cause::Form);
     }
-    if text.len() > 1 && text[0] == b'0' {
+    if let [b'0', _, ..] = text {
         return Err(Cause::LeadingZero);
     }
-    let value = capped_value(text);
-    if value > u64::from(limit) {
-        return Err(Cause::BeyondLimit);
+    match u32::try_from(capped_value(text)) {
+        Ok(value) if value <= limit => Ok(value),
+        _ => Err(Cause::BeyondLimit),
     }
-    Ok(value as u32)
 }
 
 // The number that the text writes, if it lies between the limits.
 pub(crate) fn plain(text: &[u8], low: u32, high: u32) -> Option<u32>
     ensures value { result ≡ plain_in low high text.now }
-    ensures bound { elim result [ None ↦ Unit {0} | Some n ↦ (low ≤ n) × (n ≤ high) ] }
+    ensures bound { IfSome result (λ n. (low ≤ n) × (n ≤ high)) }
 {
-    match number(text, high) {
-        Ok(n) => if low <= n { Some(n) } else { None },
-        Err(_) => None,
-    }
+    number(text, high).ok().filter(|n| low <= *n)
 }
 
 // Whether the text is one or more digits.
 fn is_numeral(text: &[u8]) -> bool
     ensures { result ≡ is_numeral text.now }
 {
-    for byte in text {
-        if *byte < b'0' || *byte > b'9' {
-            return false;
-        }
-    }
-    !text.is_empty()
+    !text.is_empty() && text.iter().all(|byte| byte.is_ascii_digit())
 }
 
-// The number that digits write, cut down to one above all limits, so that no number of digits is too many.
+// The number that digits write, cut down to the largest of 64 bits, which is above all limits, so that no number of digits is too many.
 fn capped_value(digits: &[u8]) -> u64
-    ensures { result ≡ min (value_of digits.now) 4294967296 }
+    ensures { result ≡ min (value_of digits.now) (2 ^ 64 - 1) }
 {
-    let mut value = 0u64;
-    for digit in digits {
-        value = (10 * value + u64::from(digit.saturating_sub(b'0'))).min(TOO_LARGE);
-    }
-    value
+    digits.iter().fold(0u64, |value, digit| {
+        let digit = u64::from(digit.saturating_sub(b'0'));
+        value.saturating_mul(10).saturating_add(digit)
+    })
 }

@@ -1,16 +1,13 @@
 // Reading a card.
-ghost use Rattle.std.specs.Prelude.{◌≡◌, ◌+◌, ◌≤◌, IfOk};
+ghost use Rattle.std.specs.Prelude.{◌≡◌, ◌+◌};
 ghost use Rattle.cards.specs.Text.{lines_of, left_in};
-ghost use Rattle.cards.specs.Cards.{Card};
-ghost use Rattle.cards.specs.Reading.{extent_fits, head_line, lines_in, read_card};
+ghost use Rattle.cards.specs.Reading.{extent_fits, lines_in, read_card};
 ghost use Rattle.cards.specs.Laws.{ReadingLaws};
 ghost use Rattle.cards.specs.Reads.{Reads};
-ghost use Rattle.cards.specs.Drafts.{Drafts, Steps, Gathers};
+ghost use Rattle.cards.specs.Drafts.{Gathers, Takes};
 
 use crate::accepted::Accepted;
 use crate::draft::Draft;
-use crate::heads::{Head, head_in};
-use crate::lines::four_fields;
 use crate::reader::Reader;
 use refusals::CardRefusal;
 use routine::rows::Row;
@@ -22,27 +19,14 @@ pub const MAX_CARD: usize = 32768;
 fn fits_extent(text: &[u8]) -> bool
     ensures { result ≡ extent_fits text.now }
 {
-    !text.is_empty() && text.len() <= MAX_CARD && text[text.len() - 1] == b'\n'
-}
-
-// The head that the first line writes.
-fn head_line(line: &[u8]) -> Result<Head, CardRefusal>
-    ensures value { result ≡ head_line line.now }
-    ensures bound { IfOk result (λ head. (1 ≤ head.words) × (head.words ≤ 4096)) }
-{
-    let Some(fields) = four_fields(line) else {
-        return Err(CardRefusal::FieldCount { line: 1 });
-    };
-    match head_in(&fields) {
-        Ok(head) => Ok(head),
-        Err(field) => Err(CardRefusal::Head { field }),
-    }
+    text.len() <= MAX_CARD && text.ends_with(b"\n")
 }
 
 // Takes the lines that are left.
 fn take_lines(reader: &mut Reader, draft: &mut Draft) -> Result<(), CardRefusal>
-    ensures { (card : Card) → Drafts draft.old card → Steps (lines_in card (reader.old.line + 1) (lines_of (left_in reader.old))) draft.new result }
+    ensures { Takes (λ card. lines_in card (reader.old.line + 1) (lines_of (left_in reader.old))) draft.old draft.new result }
 {
+    // Kept a `while`: the rules want the reader moved by its own method, and its line number goes with each line.
     while let Some(line) = reader.next_line() {
         draft.take_line(reader.line, line)?;
     }
@@ -60,7 +44,7 @@ fn gather(text: &[u8]) -> Result<Draft, CardRefusal>
     let Some(first) = reader.next_line() else {
         return Err(CardRefusal::Extent);
     };
-    let mut draft = Draft::new(head_line(first)?);
+    let mut draft = Draft::begin(first)?;
     take_lines(&mut reader, &mut draft)?;
     draft.check_whole()?;
     Ok(draft)
@@ -74,15 +58,16 @@ pub fn read(card: &[u8], rows: &mut [Row], labels: &mut [u32]) -> Result<Accepte
 {
     let draft = gather(card)?;
     let words = draft.head.words as usize;
-    if rows.len() < draft.count || labels.len() < words {
+    let count = draft.rows.len();
+    if rows.len() < count || labels.len() < words {
         return Err(CardRefusal::ShortTable);
     }
-    rows[0..draft.count].copy_from_slice(&draft.rows[0..draft.count]);
-    labels[0..words].copy_from_slice(&draft.labels[0..words]);
+    rows[..count].copy_from_slice(draft.rows.as_slice());
+    labels[..words].copy_from_slice(&draft.labels[..words]);
     Ok(Accepted {
         kind: draft.head.kind,
         reader: draft.head.reader,
         words,
-        rows: draft.count,
+        rows: count,
     })
 }

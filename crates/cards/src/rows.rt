@@ -7,6 +7,7 @@ use crate::fields::{constant, operand, register, unused};
 use crate::lines::Fields;
 use crate::words::Word;
 use refusals::Cause;
+use routine::LAST_SHIFT;
 use routine::rows::{Operation, Row};
 
 // A wrong field of a row.
@@ -36,7 +37,7 @@ fn right_limit(operation: Operation) -> u32
     ensures { result ≡ right_limit operation }
 {
     match operation {
-        Operation::ShiftLeft | Operation::ShiftRight => 31,
+        Operation::ShiftLeft | Operation::ShiftRight => LAST_SHIFT,
         _ => u32::MAX,
     }
 }

@@ -29,7 +29,7 @@ pub enum Test {
 }
 
 // A row: one of the nineteen words with its fields.
-#[derive(Clone, Copy)]
+#[derive(Clone, Copy, Default)]
 pub enum Row {
     // set: the register becomes the constant
     Set {
@@ -73,6 +73,7 @@ pub enum Row {
     },
     // fen
     Fence,
-    // hlt
+    // hlt; it also stands where a table of fixed size holds no row yet
+    #[default]
     Halt,
 }

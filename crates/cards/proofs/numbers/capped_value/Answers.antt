@@ -1,18 +1,22 @@
-use Rattle.std.proofs.Common.{◌+◌, ◌-◌, ◌*◌, min, get_or, take, sym, ap, ◌∙◌, ap₂, arith}
-use Rattle.std.proofs.lemmas.List.{take_all}
-use Rattle.cards.specs.Numbers.{value_of}
-use Rattle.cards.proofs.Digits.{value_more, cap_step}
+use Rattle.std.proofs.Common.{◌≡◌, ℕ, ◌+◌, ◌-◌, ◌*◌, ◌^◌, min, refl, ◌∙◌, arith, tests, rules}
+use Rattle.std.proofs.lemmas.Iterator.{YieldsList-from_slice}
+use Rattle.std.proofs.lemmas.Iterator.Consumers.{fold_from_yields_List}
+use Rattle.std.proofs.lemmas.List.Folds.{fold_along}
 use Rattle.cards.proofs.numbers.capped_value.Goals as goal
 
-pub loop-digit-preserved : goal.loop-digit-preserved
-loop-digit-preserved c =
-    let digits = c.args.digits.now in
-    let i = c.loop-digit.digit-index in
-    c.min-value.ensures
-    ∙ ap₂ (λ value digit. min (10 * value + digit) 4294967296) c.loop-digit.invariant (c.from.ensures ∙ c.saturating_sub.ensures)
-    ∙ cap_step (value_of (take i digits)) (get_or digits i 0 - 48) 4294967296
-    ∙ ap (λ value. min value 4294967296) (sym (value_more digits i c.loop-digit-test.true))
+-- one digit more, and the same cut down
+abbrev more : ℕ → ℕ → ℕ
+more n digit = 10 * n + (digit - 48)
+
+abbrev capped : ℕ → ℕ → ℕ
+capped n digit = min (min (n * 10) (2 ^ 64 - 1) + (digit - 48)) (2 ^ 64 - 1)
+
+-- a number that was cut down grows to one that is cut down
+stays_cut : (n m digit : ℕ) → n ≡ min m (2 ^ 64 - 1) → capped n digit ≡ min (more m digit) (2 ^ 64 - 1)
+stays_cut n m digit is = omega arith
 
 pub returns : goal.returns
 returns c =
-    c.loop-digit.invariant ∙ ap (λ digits. min (value_of digits) 4294967296) (take_all c.loop-digit.digit-index c.args.digits.now (omega arith))
+    let digits = c.args.digits.now in
+    fold_from_yields_List _ capped 0 c.fold.result c.fold.ensures.ran (YieldsList-from_slice digits cc) (λ a x b q k. search (rules, tests))
+    ∙ fold_along capped more (λ n m. n ≡ min m (2 ^ 64 - 1)) stays_cut 0 0 digits refl

@@ -18,7 +18,7 @@ loop-line-preserved c = λ card drafts.
     (c.take_line.ensures so_far drafted) c.in_ok-take_line.was in (
       next,
       drafts-next,
-      sym (lines_next so_far c.loop-line.reader.line reader.line line (lines_of (left_in c.loop-line.reader)) (lines_of (left_in reader)) read.0 read.1 next is) ∙ left,
+      sym (lines_next so_far c.loop-line.reader.line reader.line line (lines_of (left_in c.loop-line.reader)) (lines_of (left_in reader)) read.line read.number next is) ∙ left,
     )
 
 pub returns-in_err-take_line : goal.returns-in_err-take_line
@@ -31,7 +31,7 @@ returns-in_err-take_line c = λ card drafts.
     let refused = failed (line_in so_far reader.line line) c.take_line.new.self c.take_line.result _
     (c.take_line.ensures so_far drafted) c.in_err-take_line.was in
     steps_by c.take_line.new.self c.from_residual.result
-    (sym left ∙ lines_stop so_far c.loop-line.reader.line reader.line line (lines_of (left_in c.loop-line.reader)) (lines_of (left_in reader)) read.0 read.1 _ refused)
+    (sym left ∙ lines_stop so_far c.loop-line.reader.line reader.line line (lines_of (left_in c.loop-line.reader)) (lines_of (left_in reader)) read.line read.number _ refused)
     (told.1 ∙ ap Err told.2)
 
 pub returns : goal.returns
@@ -39,4 +39,4 @@ unfolding lines_in split
 returns c = λ card drafts.
     let (so_far, drafted, left) = c.loop-line.invariant card drafts in
     steps_by c.loop-line.draft (Ok tt)
-    (sym left ∙ ap (λ text. lines_in so_far (c.loop-line.reader.line + 1) (lines_of text)) c.in_default.ensures.0) (refl, drafted)
+    (sym left ∙ ap (λ text. lines_in so_far (c.loop-line.reader.line + 1) (lines_of text)) c.in_default.ensures.none.0) (refl, drafted)

@@ -1,25 +1,17 @@
-use Rattle.std.proofs.Common.{refl, arith}
-use Rattle.std.proofs.lemmas.List.{drop_all}
-use Rattle.cards.proofs.Splits.{line_inside, line_next, line_shorter, line_open, open_shorter}
+use Rattle.std.proofs.Common.{arith}
+use Rattle.cards.proofs.Splits.{line_next, line_shorter, line_open, open_shorter}
 use Rattle.cards.proofs.reader.Reader.next_line.Goals as goal
 
-pub returns-then-self : goal.returns-then-self
-returns-then-self c = (drop_all c.args.self.now.at c.args.self.now.card.now (omega arith), refl)
+pub returns-in-Some-clause-line : goal.returns-in-Some-clause-line
+returns-in-Some-clause-line c =
+    let self = c.args.self.now in line_next self.card.now self.at c.in-Some.line.now _ c.in-Some.ensures.0 c.in-Some.ensures.1
 
-pub invariant_of-self : goal.invariant_of-self
-invariant_of-self c =
-    let self = c.args.self.now in
-    record { inside = line_inside self.card.now self.at c.in-Some.line.now _ c.in-Some.ensures.0 self.inside; counted = omega (arith, self.counted) }
+pub returns-in-Some-clause-shorter : goal.returns-in-Some-clause-shorter
+returns-in-Some-clause-shorter c =
+    let self = c.args.self.now in line_shorter self.card.now self.at c.in-Some.line.now _ c.in-Some.ensures.0 self.inside
 
-pub returns-in-Some : goal.returns-in-Some
-returns-in-Some c =
-    let self = c.args.self.now in (
-      line_next self.card.now self.at c.in-Some.line.now _ c.in-Some.ensures.0 c.in-Some.ensures.1,
-      refl,
-      line_shorter self.card.now self.at c.in-Some.line.now _ c.in-Some.ensures.0 self.inside,
-    )
+pub returns-in-None-clause-line : goal.returns-in-None-clause-line
+returns-in-None-clause-line c = let self = c.args.self.now in line_open self.card.now self.at (omega (arith, self.inside)) c.in-None.ensures
 
-pub returns-in-None : goal.returns-in-None
-returns-in-None c =
-    let self = c.args.self.now in
-    (line_open self.card.now self.at (omega (arith, self.inside)) c.in-None.ensures, refl, open_shorter self.card.now self.at (omega (arith, self.inside)))
+pub returns-in-None-clause-shorter : goal.returns-in-None-clause-shorter
+returns-in-None-clause-shorter c = let self = c.args.self.now in open_shorter self.card.now self.at (omega (arith, self.inside))
