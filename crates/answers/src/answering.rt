@@ -13,15 +13,12 @@ use report::{Line, declined_line, verdict_line};
 use routine::rows::Row;
 use routine::{MAX_ROWS, MAX_WORDS, Source};
 
-const NO_MAKERS: Fact<MakerSet> = Fact::Unreached;
-
-const NO_GRADES: Fact<Grade> = Fact::Unreached;
-
 // Gives each word the label of its number.
 fn fill_labels<L: Numbered>(numbers: &[u32], labels: &mut [L])
     requires { length numbers.now ≡ length labels.old }
     ensures { labels.new ≡ map L.Numbered.numbered numbers.now }
 {
+    // By index: after a loop over `iter_mut` nothing is known of what it wrote.
     for (i, number) in numbers.iter().enumerate() {
         labels[i] = L::from_number(*number);
     }
@@ -29,7 +26,8 @@ fn fill_labels<L: Numbered>(numbers: &[u32], labels: &mut [L])
 
 // The line of the verdict on a routine within the limits.
 fn judged_line<'a, L: Label>(source: &'a Source<'a, L>, reader: L, table: &mut [Fact<L>]) -> Line
-    requires { (within source.now.rows.now (length source.now.labels.now) (length source.now.labels.now) ≡ true) × (2 * length source.now.rows.now ≤ length table.old) }
+    requires fits { within source.now.rows.now (length source.now.labels.now) (length source.now.labels.now) ≡ true }
+    requires room { 2 * length source.now.rows.now ≤ length table.old }
     ensures { GivesLineAs L.Label.kind source.now.labels.now source.now.rows.now reader (line_bytes result) }
 {
     let taken = routine::take(source, source.labels.len());
@@ -37,8 +35,8 @@ fn judged_line<'a, L: Label>(source: &'a Source<'a, L>, reader: L, table: &mut [
     verdict_line(judged.verdict())
 }
 
-// The line of the verdict on a card's rows, with its labels and its reader taken as a kind's. The tables of labels and of facts
-// are for working in.
+// The line of the verdict on rows, with labels and a reader by the numbers that a kind writes for them. The tables of labels and of
+// facts are for working in.
 fn answer_as<L: Numbered>(
     rows: &[Row],
     numbers: &[u32],
@@ -46,36 +44,36 @@ fn answer_as<L: Numbered>(
     labels: &mut [L],
     table: &mut [Fact<L>],
 ) -> Line
-    requires { (within rows.now (length numbers.now) (length numbers.now) ≡ true) × ((length numbers.now ≤ length labels.old) × (2 * length rows.now ≤ length table.old)) }
+    requires fits { within rows.now (length numbers.now) (length numbers.now) ≡ true }
+    requires labels { length numbers.now ≤ length labels.old }
+    requires table { 2 * length rows.now ≤ length table.old }
     ensures { GivesLineAs L.Label.kind (map L.Numbered.numbered numbers.now) rows.now (L.Numbered.numbered reader) (line_bytes result) }
 {
-    let words = numbers.len();
-    fill_labels(numbers, &mut labels[0..words]);
-    let source = Source {
-        rows,
-        labels: &labels[0..words],
-    };
+    let labels = &mut labels[..numbers.len()];
+    fill_labels(numbers, labels);
+    let source = Source { rows, labels };
     judged_line(&source, L::from_number(reader), table)
 }
 
 // The line of the verdict on an accepted card, which was read into these tables.
 fn answer_accepted(accepted: Accepted, rows: &[Row], numbers: &[u32]) -> Line
-    requires { (accepted.rows ≤ length rows.now) × ((accepted.words ≤ length numbers.now) × (within (take accepted.rows rows.now) accepted.words accepted.words ≡ true)) }
+    requires rows { accepted.rows ≤ length rows.now }
+    requires words { accepted.words ≤ length numbers.now }
+    requires fits { within (take accepted.rows rows.now) accepted.words accepted.words ≡ true }
     ensures { GivesLine accepted.kind (take accepted.words numbers.now) (take accepted.rows rows.now) accepted.reader (line_bytes result) }
 {
-    let row_count = accepted.rows;
-    let words = accepted.words;
-    let rows = &rows[0..row_count];
-    let numbers = &numbers[0..words];
+    let rows = &rows[..accepted.rows];
+    let numbers = &numbers[..accepted.words];
     match accepted.kind {
+        // Each kind has its tables made here: of an array of a type parameter no size is known.
         LabelKind::Makers => {
-            let mut labels = [MakerSet { members: 0 }; MAX_WORDS];
-            let mut table = [NO_MAKERS; MAX_FACTS];
+            let mut labels = [MakerSet::lowest(); MAX_WORDS];
+            let mut table = [None; MAX_FACTS];
             answer_as(rows, numbers, accepted.reader, &mut labels, &mut table)
         }
         LabelKind::Grades => {
-            let mut labels = [Grade::G0; MAX_WORDS];
-            let mut table = [NO_GRADES; MAX_FACTS];
+            let mut labels = [Grade::lowest(); MAX_WORDS];
+            let mut table = [None; MAX_FACTS];
             answer_as(rows, numbers, accepted.reader, &mut labels, &mut table)
         }
     }

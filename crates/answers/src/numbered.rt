@@ -17,7 +17,7 @@ impl Numbered for MakerSet {
 
     fn from_number(number: u32) -> MakerSet {
         MakerSet {
-            members: number.min(65535) as u16,
+            members: u16::try_from(number).unwrap_or(u16::MAX),
         }
     }
 }
@@ -26,9 +26,6 @@ impl Numbered for Grade {
     ghost numbered = { grade_numbered };
 
     fn from_number(number: u32) -> Grade {
-        match Grade::new(number) {
-            Ok(grade) => grade,
-            Err(_) => Grade::G15,
-        }
+        Grade::try_from(number).unwrap_or(Grade::G15)
     }
 }

@@ -15,4 +15,4 @@ mod words;
 
 pub use accepted::Accepted;
 pub use heads::LabelKind;
-pub use reading::read;
+pub use reading::{MAX_CARD, read};

@@ -12,7 +12,8 @@ use crate::reader::Reader;
 use refusals::CardRefusal;
 use routine::rows::Row;
 
-const MAX_CARD: usize = 32768;
+// As many bytes as a card may have.
+pub const MAX_CARD: usize = 32768;
 
 // Whether the text is as long as a card may be, and ended as one.
 fn fits_extent(text: &[u8]) -> bool

@@ -1,16 +1,17 @@
 -- The order and the join of registers' facts, place by place.
-use Rattle.std.proofs.Common.{◌≡◌, ℕ, zero, suc, ◌+◌, ◌<◌, ◌≤◌, ◌&&◌, List, [], ◌∷◌, length, get_or, drop, refl, ap, ap₂, arith}
-use Rattle.std.proofs.lemmas.List.{drop_more}
+use Rattle.std.proofs.Common.{◌≡◌, ℕ, zero, suc, ◌<◌, ◌≤◌, ◌&&◌, List, [], ◌∷◌, length, get_or, refl, ap, arith}
+use Rattle.std.specs.List.{list_all, zip}
 use Rattle.labels.specs.Kind.{Kind}
 use Rattle.facts.specs.declared.types.Known.{Known}
 use Rattle.facts.specs.Order.{below_known, below_all, join_known, join_all}
 use Rattle.facts.specs.Raising.{Bounded}
 
 module _ {L : Type 0} (K : Kind L) where
-  -- one register more is compared
-  pub below_step : (xs ys : List (Known L)) (i : ℕ) (d : Known L) → i < length xs → i < length ys
-      → below_all K (drop i xs) (drop i ys) ≡ (below_known K (get_or xs i d) (get_or ys i d) && below_all K (drop (i + 1) xs) (drop (i + 1) ys))
-  below_step xs ys i d p q = ap₂ (below_all K) (drop_more xs i d p) (drop_more ys i d q)
+  -- registers compared two by two
+  pub below_zipped : (xs ys : List (Known L)) → length xs ≤ length ys → list_all (λ p. below_known K p.0 p.1) (zip xs ys) ≡ below_all K xs ys
+  below_zipped [] ys h = refl
+  below_zipped (x ∷ xs) [] h = absurd (omega arith)
+  below_zipped (x ∷ xs) (y ∷ ys) h = ap (λ b. below_known K x y && b) (below_zipped xs ys (omega arith))
 
   pub joined_length : (xs ys : List (Known L)) → length xs ≤ length ys → length (join_all K xs ys) ≡ length xs
   joined_length [] ys h = refl

@@ -1,5 +1,5 @@
 -- Every rule keeps the order: from lower facts, lower facts are handed on, and whatever leaks also leaks under higher ones.
-use Rattle.std.proofs.Common.{◌≡◌, ℕ, ◌+◌, ◌≤◌, min, Bool, true, false, cond, not, ◌&&◌, List, [], ◌∷◌, length, refl, ⊎_elim, arith}
+use Rattle.std.proofs.Common.{◌≡◌, ℕ, ◌+◌, ◌≤◌, min, Bool, true, false, cond, not, ◌&&◌, List, [], ◌∷◌, length, refl, ⊎_elim, arith, Some, None}
 use Rattle.std.proofs.lemmas.Bool.{and_parts, and_from, or_cases, or_left, or_right, cases_Bool, not-true, not_from_false, both_ways, false≢true}
 use Rattle.labels.specs.Kind.{Kind, Lawful}
 use Rattle.routine.specs.Address.{in_window}
@@ -17,9 +17,7 @@ use Rattle.facts.specs.declared.types.Mode.TheVariants.{Settled, Guessed}
 use Rattle.facts.specs.declared.types.Reason.{Reason}
 use Rattle.facts.specs.declared.types.Reason.TheVariants as reason
 use Rattle.facts.specs.declared.types.Known.{Known}
-use Rattle.facts.specs.declared.types.Fact.{Fact}
-use Rattle.facts.specs.declared.types.Fact.TheVariants.{Unreached, Reached}
-use Rattle.facts.specs.Order.{knows, known_at, below_known, below_all, below_fact}
+use Rattle.facts.specs.Order.{Fact, knows, known_at, below_known, below_all, below_fact}
 use Rattle.facts.specs.Rules.{bits_of, width_after, of_operand, join_from, result_of, after, narrowed, at_target, at_next, Handed, hand, onward, hands}
 use Rattle.facts.specs.Leaks.{hidden, hidden_operand, spills_from, leaks}
 use Rattle.facts.specs.Tables.{fact_at, admits, hands_fact, leaks_fact}
@@ -112,7 +110,7 @@ module _ {L : Type 0} (K : Kind L) (laws : Lawful K) where
           → admits K table (hand r m ys ∷ high) ≡ true → admits K table (hand r m xs ∷ low) ≡ true
       more r m xs ys low high lower rest h =
           let (here, later) = and_parts _ _ h in
-          and_from _ _ (fact_trans K laws (Reached xs) (Reached ys) (fact_at table r m) lower here) (rest later)
+          and_from _ _ (fact_trans K laws (Some xs) (Some ys) (fact_at table r m) lower here) (rest later)
 
       one : (r : ℕ) (m : Mode) (xs ys : List (Known L)) → below_all K xs ys ≡ true
           → admits K table (hand r m ys ∷ []) ≡ true → admits K table (hand r m xs ∷ []) ≡ true
@@ -189,12 +187,12 @@ module _ {L : Type 0} (K : Kind L) (laws : Lawful K) where
   -- the same of facts, reached or not
   pub facts_admitted : (f g : Fact L) → below_fact K f g ≡ true → (table : List (Fact L)) (labels : List L) (x : Row) (i : ℕ) (m : Mode)
       → admits K table (hands_fact K labels x i m g) ≡ true → admits K table (hands_fact K labels x i m f) ≡ true
-  facts_admitted Unreached g low table labels x i m h = refl
-  facts_admitted (Reached ks) Unreached low table labels x i m h = absurd (false≢true low)
-  facts_admitted (Reached ks) (Reached gs) low table labels x i m h = hands_admitted ks gs low table labels x i m h
+  facts_admitted None g low table labels x i m h = refl
+  facts_admitted (Some ks) None low table labels x i m h = absurd (false≢true low)
+  facts_admitted (Some ks) (Some gs) low table labels x i m h = hands_admitted ks gs low table labels x i m h
 
   pub facts_leak : (f g : Fact L) → below_fact K f g ≡ true → (labels : List L) (reader : L) (x : Row) (why : Reason)
       → leaks_fact K labels reader x why f ≡ true → leaks_fact K labels reader x why g ≡ true
-  facts_leak Unreached g low labels reader x why h = absurd (false≢true h)
-  facts_leak (Reached ks) Unreached low labels reader x why h = absurd (false≢true low)
-  facts_leak (Reached ks) (Reached gs) low labels reader x why h = leaks_mono ks gs low reader labels x why h
+  facts_leak None g low labels reader x why h = absurd (false≢true h)
+  facts_leak (Some ks) None low labels reader x why h = absurd (false≢true low)
+  facts_leak (Some ks) (Some gs) low labels reader x why h = leaks_mono ks gs low reader labels x why h

@@ -1,11 +1,9 @@
 -- The order of facts is one, and registers keep it.
-use Rattle.std.proofs.Common.{◌≡◌, ℕ, zero, suc, ◌≤◌, true, List, [], ◌∷◌, length, set, refl, arith}
+use Rattle.std.proofs.Common.{◌≡◌, ℕ, zero, suc, ◌≤◌, true, List, [], ◌∷◌, length, set, refl, arith, Some, None}
 use Rattle.std.proofs.lemmas.Bool.{and_parts, and_from, le-leb, leb-true, false≢true}
 use Rattle.labels.specs.Kind.{Kind, Lawful}
 use Rattle.facts.specs.declared.types.Known.{Known}
-use Rattle.facts.specs.declared.types.Fact.{Fact}
-use Rattle.facts.specs.declared.types.Fact.TheVariants.{Unreached, Reached}
-use Rattle.facts.specs.Order.{known_at, below_known, below_all, below_fact, join_known, join_all}
+use Rattle.facts.specs.Order.{Fact, known_at, below_known, below_all, below_fact, join_known, join_all}
 
 module _ {L : Type 0} (K : Kind L) where
   -- at or below is two facts
@@ -39,14 +37,14 @@ module _ {L : Type 0} (K : Kind L) (laws : Lawful K) where
       and_from _ _ (known_trans x y z a c) (all_trans xs ys zs b d)
 
   pub fact_refl : (f : Fact L) → below_fact K f f ≡ true
-  fact_refl Unreached = refl
-  fact_refl (Reached ks) = all_refl ks
+  fact_refl None = refl
+  fact_refl (Some ks) = all_refl ks
 
   pub fact_trans : (f g h : Fact L) → below_fact K f g ≡ true → below_fact K g h ≡ true → below_fact K f h ≡ true
-  fact_trans Unreached g h p q = refl
-  fact_trans (Reached xs) Unreached h p q = absurd (false≢true p)
-  fact_trans (Reached xs) (Reached ys) Unreached p q = absurd (false≢true q)
-  fact_trans (Reached xs) (Reached ys) (Reached zs) p q = all_trans xs ys zs p q
+  fact_trans None g h p q = refl
+  fact_trans (Some xs) None h p q = absurd (false≢true p)
+  fact_trans (Some xs) (Some ys) None p q = absurd (false≢true q)
+  fact_trans (Some xs) (Some ys) (Some zs) p q = all_trans xs ys zs p q
 
   -- a register of the lower is lower; one that there is not is lowest
   pub at_mono : (xs ys : List (Known L)) (r : ℕ) → below_all K xs ys ≡ true → below_known K (known_at K xs r) (known_at K ys r) ≡ true

@@ -1,11 +1,9 @@
 -- A fact that rises has less room left.
-use Rattle.std.proofs.Common.{◌≡◌, ◌+◌, ◌*◌, ◌<◌, ◌≤◌, true, false, leb, List, [], ◌∷◌, length, Some, sym, refl, ap, subst, ⊎_elim, suc-mul, arith}
+use Rattle.std.proofs.Common.{◌≡◌, ◌+◌, ◌*◌, ◌<◌, ◌≤◌, true, false, leb, List, [], ◌∷◌, length, Some, sym, refl, ap, subst, ⊎_elim, suc-mul, arith, None}
 use Rattle.std.proofs.lemmas.Bool.{cases_Bool, and_cases, leb-false, both_ways}
 use Rattle.labels.specs.Kind.{Kind, Lawful}
 use Rattle.facts.specs.declared.types.Known.{Known}
-use Rattle.facts.specs.declared.types.Fact.{Fact}
-use Rattle.facts.specs.declared.types.Fact.TheVariants.{Unreached, Reached}
-use Rattle.facts.specs.Order.{below_known, below_all, below_fact, join_known, join_all}
+use Rattle.facts.specs.Order.{Fact, below_known, below_all, below_fact, join_known, join_all}
 use Rattle.facts.specs.Raising.{room, room_known, room_all, Bounded, Raised, RisenTo}
 use Rattle.facts.proofs.Orders.{all_refl, all_above, all_admits, all_least}
 
@@ -50,31 +48,31 @@ module _ {L : Type 0} (K : Kind L) (laws : Lawful K) where
   room_of [] = omega arith
   room_of (x ∷ xs) = omega (arith, room_of xs, suc-mul (length xs) (K.greatest + 255))
 
-  least_join : (old ks : List (Known L)) (u : Fact L) → below_fact K (Reached old) u ≡ true → below_fact K (Reached ks) u ≡ true
-      → below_fact K (Reached (join_all K old ks)) u ≡ true
-  least_join old ks Unreached p q = p
-  least_join old ks (Reached bs) p q = all_least K laws old ks bs p q
+  least_join : (old ks : List (Known L)) (u : Fact L) → below_fact K (Some old) u ≡ true → below_fact K (Some ks) u ≡ true
+      → below_fact K (Some (join_all K old ks)) u ≡ true
+  least_join old ks None p q = p
+  least_join old ks (Some bs) p q = all_least K laws old ks bs p q
 
   -- an unreached fact rises to what is handed to it
-  pub reached_first : (fact : Fact L) (ks new : List (Known L)) → fact ≡ Unreached → new ≡ ks → length ks ≡ 16 → Raised K fact ks (Some new)
+  pub reached_first : (fact : Fact L) (ks new : List (Known L)) → fact ≡ None → new ≡ ks → length ks ≡ 16 → Raised K fact ks (Some new)
   reached_first fact ks new is same long =
-      let falls : room_all K new < room K Unreached =
+      let falls : room_all K new < room K None =
       omega (arith, ap (room_all K) same, room_of ks, ap (λ n. n * (K.greatest + 255)) long) in
       let upper : below_all K ks new ≡ true = subst (λ n. below_all K ks n ≡ true) (sym same) (all_refl K laws ks) in
       subst (λ f. RisenTo K f ks new) (sym is) (record {
         higher = refl;
         above = refl;
         admits = upper;
-        least = λ u h k. subst (λ n. below_fact K (Reached n) u ≡ true) (sym same) k;
+        least = λ u h k. subst (λ n. below_fact K (Some n) u ≡ true) (sym same) k;
         less_room = falls;
       })
 
   -- a reached fact that is not at or above what is handed to it rises to the join
-  pub reached_higher : (fact : Fact L) (old ks new : List (Known L)) → fact ≡ Reached old → new ≡ join_all K old ks → below_all K ks old ≡ false
+  pub reached_higher : (fact : Fact L) (old ks new : List (Known L)) → fact ≡ Some old → new ≡ join_all K old ks → below_all K ks old ≡ false
       → Bounded K new → length old ≡ length ks → Raised K fact ks (Some new)
   reached_higher fact old ks new is same above bounded long =
       let falls : room_all K (join_all K old ks) < room_all K old = all_falls old ks (omega arith) above (subst (Bounded K) same bounded) in
-      subst (λ f. RisenTo K f ks new) (sym is) (subst (λ n. RisenTo K (Reached old) ks n) (sym same) (record {
+      subst (λ f. RisenTo K f ks new) (sym is) (subst (λ n. RisenTo K (Some old) ks n) (sym same) (record {
         higher = above;
         above = all_above K laws old ks (omega arith);
         admits = all_admits K laws old ks (omega arith);

@@ -1,9 +1,11 @@
 -- Facts and their order.
-use Rattle.std.specs.Prelude.{ℕ, max, Bool, true, false, ◌&&◌, List, [], ◌∷◌, replicate, nat_le, slice_index_or}
+use Rattle.std.specs.Prelude.{ℕ, max, Bool, true, false, ◌&&◌, List, [], ◌∷◌, replicate, Some, None, Option, nat_le, slice_index_or}
 use Rattle.labels.specs.Kind.{Kind}
 use Rattle.facts.specs.declared.types.Known.{Known}
-use Rattle.facts.specs.declared.types.Fact.{Fact}
-use Rattle.facts.specs.declared.types.Fact.TheVariants.{Unreached, Reached}
+
+-- what is known at a row in a mode: none where it is unreached, else something of every register
+abbrev pub Fact : Type 0 → Type 0
+Fact L = Option (List (Known L))
 
 -- a label and a width
 abbrev pub knows : {L : Type 0} → L → ℕ → Known L
@@ -30,9 +32,9 @@ module _ {L : Type 0} (K : Kind L) where
 
   -- a fact is at or below another if it is unreached, or both are reached and every register is
   abbrev pub below_fact : Fact L → Fact L → Bool
-  below_fact Unreached g = true
-  below_fact (Reached ks) Unreached = false
-  below_fact (Reached ks) (Reached bs) = below_all ks bs
+  below_fact None g = true
+  below_fact (Some ks) None = false
+  below_fact (Some ks) (Some bs) = below_all ks bs
 
   -- the least at or above both
   abbrev pub join_known : Known L → Known L → Known L

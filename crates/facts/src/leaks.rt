@@ -1,11 +1,12 @@
 // What leaks at a row.
 ghost use Rattle.std.specs.Prelude.{◌≡◌};
-ghost use Rattle.facts.specs.Leaks.{counts, hidden, hidden_operand, spills, sought_leak, first_reason};
+ghost use Rattle.facts.specs.Leaks.{counts, hidden, hidden_operand, spills_from, sought_leak, first_reason};
 
 use crate::registers::known_at;
+use crate::rules::window_of;
 use crate::types::{Mode, Reason, Registers, Sought};
 use labels::Label;
-use routine::addressing::reaches;
+use routine::addressing::Window;
 use routine::rows::{Operand, Row};
 
 impl Sought {
@@ -13,10 +14,14 @@ impl Sought {
     fn includes(self, mode: Mode, reason: Reason) -> bool
         ensures { result ≡ counts self mode reason }
     {
-        match (self, mode, reason) {
-            (Sought::SpillOrGuessed, Mode::Settled, Reason::Address | Reason::Branch) => false,
-            _ => true,
-        }
+        !matches!(
+            (self, mode, reason),
+            (
+                Sought::SpillOrGuessed,
+                Mode::Settled,
+                Reason::Address | Reason::Branch
+            )
+        )
     }
 }
 
@@ -37,15 +42,13 @@ fn is_operand_hidden<L: Label>(known: &Registers<L>, operand: Operand, reader: L
 }
 
 // Whether some word that the store can reach has a label that the stored value's label is not at or below.
-fn does_spill<L: Label>(labels: &[L], base: u32, width: u8, label: L) -> bool
-    ensures { result ≡ spills L.Label.kind labels.now base width label }
+fn does_spill<L: Label>(labels: &[L], window: Window, label: L) -> bool
+    ensures { result ≡ spills_from L.Label.kind window.words window.base window.width 0 label labels.now }
 {
-    for i in 0..labels.len() {
-        if reaches(labels.len(), base, width, i) && !label.at_or_below(labels[i]) {
-            return true;
-        }
-    }
-    false
+    labels
+        .iter()
+        .enumerate()
+        .any(|(i, word)| window.reaches(i) && !label.at_or_below(*word))
 }
 
 // The first reason, of those sought, for which a row leaks under what is known there.
@@ -65,22 +68,16 @@ pub fn leak_of<L: Label>(
             base: _,
             index,
         } => {
-            if is_hidden(known, index, reader) && sought.includes(mode, Reason::Address) {
-                return Some(Reason::Address);
-            }
-            None
+            let shown = is_hidden(known, index, reader);
+            (shown && sought.includes(mode, Reason::Address)).then_some(Reason::Address)
         }
         Row::Store { from, base, index } => {
             if is_hidden(known, index, reader) && sought.includes(mode, Reason::Address) {
                 return Some(Reason::Address);
             }
-            let width = known_at(known, index).width;
-            if does_spill(labels, base, width, known_at(known, from).label)
-                && sought.includes(mode, Reason::Spill)
-            {
-                return Some(Reason::Spill);
-            }
-            None
+            let window = window_of(labels, base, known_at(known, index));
+            let spilt = does_spill(labels, window, known_at(known, from).label);
+            (spilt && sought.includes(mode, Reason::Spill)).then_some(Reason::Spill)
         }
         Row::Branch {
             test: _,
@@ -89,10 +86,7 @@ pub fn leak_of<L: Label>(
             target: _,
         } => {
             let shown = is_hidden(known, left, reader) || is_operand_hidden(known, right, reader);
-            if shown && sought.includes(mode, Reason::Branch) {
-                return Some(Reason::Branch);
-            }
-            None
+            (shown && sought.includes(mode, Reason::Branch)).then_some(Reason::Branch)
         }
         _ => None,
     }

@@ -2,7 +2,7 @@
 #![tactic(auto)]
 
 pub mod leaks;
-mod order;
+pub mod order;
 mod registers;
 pub mod rules;
 pub mod types;

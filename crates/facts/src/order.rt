@@ -2,10 +2,9 @@
 ghost use Rattle.std.specs.Prelude.{◌≡◌, ◌≤◌, length};
 ghost use Rattle.facts.specs.Order.{below_known, below_all, join_known, join_all};
 ghost use Rattle.facts.specs.Raising.{Bounded, Raised};
-ghost use Rattle.facts.specs.Tables.{known_of};
 
 use crate::registers::copied;
-use crate::types::{Fact, Known, Registers};
+use crate::types::{Fact, Known, REGISTERS, Registers};
 use labels::Label;
 
 fn known_below<L: Label>(a: Known<L>, b: Known<L>) -> bool
@@ -17,14 +16,7 @@ fn known_below<L: Label>(a: Known<L>, b: Known<L>) -> bool
 fn all_below<L: Label>(one: &Registers<L>, other: &Registers<L>) -> bool
     ensures { result ≡ below_all L.Label.kind one.now other.now }
 {
-    let a: &[Known<L>] = one;
-    let b: &[Known<L>] = other;
-    for i in 0..16 {
-        if !known_below(a[i], b[i]) {
-            return false;
-        }
-    }
-    true
+    one.iter().zip(other).all(|(a, b)| known_below(*a, *b))
 }
 
 fn known_joined<L: Label>(a: Known<L>, b: Known<L>) -> Known<L>
@@ -46,35 +38,31 @@ fn all_joined<L: Label>(one: &Registers<L>, other: &Registers<L>) -> Registers<L
     let a: &[Known<L>] = one;
     let b: &[Known<L>] = other;
     let mut joined = copied(one);
-    for i in 0..16 {
+    // By index: the proofs of `array::from_fn` and of a loop over `iter_mut` did not close.
+    for i in 0..REGISTERS {
         joined[i] = known_joined(a[i], b[i]);
     }
     joined
 }
 
-impl<L: Label> Fact<L> {
-    // What is known, where the row is reached.
-    pub fn known(&self) -> Option<Registers<L>>
-        ensures { result ≡ known_of self.now }
-    {
-        match self {
-            Fact::Unreached => None,
-            Fact::Reached(known) => Some(copied(known)),
-        }
-    }
+// A copy of a fact, for whoever hands on what is known while facts change.
+pub fn known<L: Label>(fact: &Fact<L>) -> Option<Registers<L>>
+    ensures { result ≡ fact.now }
+{
+    fact.as_ref().map(copied)
+}
 
-    // What the fact has to rise to, to be at or above what is handed to it; nothing where it is already.
-    pub fn raised_by(&self, handed: &Registers<L>) -> Option<Registers<L>>
-        ensures { Raised L.Label.kind self.now handed.now result }
-    {
-        match self {
-            Fact::Unreached => Some(copied(handed)),
-            Fact::Reached(old) => {
-                if all_below(handed, old) {
-                    None
-                } else {
-                    Some(all_joined(old, handed))
-                }
+// What a fact has to rise to, to be at or above what is handed to it; none where it is already.
+pub fn raised<L: Label>(fact: &Fact<L>, handed: &Registers<L>) -> Option<Registers<L>>
+    ensures { Raised L.Label.kind fact.now handed.now result }
+{
+    match fact {
+        None => Some(copied(handed)),
+        Some(old) => {
+            if all_below(handed, old) {
+                None
+            } else {
+                Some(all_joined(old, handed))
             }
         }
     }

@@ -3,7 +3,7 @@ ghost use Rattle.std.specs.Prelude.{◌≡◌, ℕ, ◌+◌, ◌-◌, min, lengt
 ghost use Rattle.facts.specs.Order.{known_at};
 ghost use Rattle.facts.specs.Rules.{bits_of, of_operand, width_after, result_of, narrowed};
 
-use crate::types::{Known, Registers};
+use crate::types::{Known, REGISTERS, Registers};
 use labels::Label;
 use routine::rows::{Operand, Operation};
 
@@ -11,29 +11,19 @@ use routine::rows::{Operand, Operation};
 pub(crate) fn known_at<L: Label>(known: &Registers<L>, register: u8) -> Known<L>
     ensures { result ≡ known_at L.Label.kind known.now register }
 {
-    match known.get(register as usize) {
-        Some(k) => *k,
-        None => Known {
-            label: L::lowest(),
-            width: 0,
-        },
-    }
+    known
+        .get(usize::from(register))
+        .copied()
+        .unwrap_or_default()
 }
 
-// A copy. What holds a type parameter is not copied whole from behind a reference, so this goes register by register.
+// A copy. What holds a type parameter is not copied from behind a reference by `*known`: the check does not cover that yet.
 pub(crate) fn copied<L: Label>(known: &Registers<L>) -> Registers<L>
     ensures value { result ≡ known.now }
     ensures long { length result ≡ 16 }
 {
-    let all: &[Known<L>] = known;
-    let nothing = Known {
-        label: L::lowest(),
-        width: 0,
-    };
-    let mut copy = [nothing; 16];
-    for i in 0..16 {
-        copy[i] = all[i];
-    }
+    let mut copy = [Known::default(); REGISTERS];
+    copy.copy_from_slice(known);
     copy
 }
 
@@ -41,8 +31,8 @@ pub(crate) fn copied<L: Label>(known: &Registers<L>) -> Registers<L>
 pub(crate) fn with<L: Label>(mut known: Registers<L>, register: u8, new: Known<L>) -> Registers<L>
     ensures { result ≡ slice_set known register new }
 {
-    let at = register as usize;
-    if at < 16 {
+    let at = usize::from(register);
+    if at < REGISTERS {
         known[at] = new;
     }
     known

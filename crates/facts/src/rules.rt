@@ -1,21 +1,32 @@
 // What a row makes of what is known before it.
-ghost use Rattle.std.specs.Prelude.{◌≡◌};
-ghost use Rattle.facts.specs.Rules.{join_window, after, at_target, at_next};
+ghost use Rattle.std.specs.Prelude.{◌≡◌, length};
+ghost use Rattle.facts.specs.Rules.{join_from, after, at_target, at_next};
 
 use crate::registers::{bits_of, copied, known_at, narrow, of_operand, result_of, with};
 use crate::types::{Known, Registers};
 use labels::Label;
-use routine::addressing::reaches;
+use routine::addressing::Window;
 use routine::rows::{Operand, Row, Test};
 
-// The label joined with those of all words that an index below 2 ^ width can reach.
-fn window_label<L: Label>(labels: &[L], base: u32, width: u8, label: L) -> L
-    ensures { result ≡ join_window L.Label.kind labels.now base width label }
+// The words that a load or a store can reach, from what is known of its index.
+pub(crate) fn window_of<L: Label>(labels: &[L], base: u32, index: Known<L>) -> Window
+    ensures { result ≡ record { words = length labels.now; base = base; width = index.width } }
+{
+    Window {
+        words: labels.len(),
+        base,
+        width: index.width,
+    }
+}
+
+// The label joined with those of all words of the window.
+fn window_label<L: Label>(labels: &[L], window: Window, label: L) -> L
+    ensures { result ≡ join_from L.Label.kind window.words window.base window.width 0 labels.now label }
 {
     let mut joined = label;
-    for i in 0..labels.len() {
-        if reaches(labels.len(), base, width, i) {
-            joined = joined.join(labels[i]);
+    for (i, word) in labels.iter().enumerate() {
+        if window.reaches(i) {
+            joined = joined.join(*word);
         }
     }
     joined
@@ -27,10 +38,7 @@ pub fn known_after<L: Label>(row: Row, known: &Registers<L>, labels: &[L]) -> Re
 {
     match row {
         Row::Set { to, value } => {
-            let new = Known {
-                label: L::lowest(),
-                width: bits_of(value),
-            };
+            let new = of_operand(known, Operand::Constant(value));
             with(copied(known), to, new)
         }
         Row::Copy { to, from } => {
@@ -51,7 +59,7 @@ pub fn known_after<L: Label>(row: Row, known: &Registers<L>, labels: &[L]) -> Re
         Row::Load { to, base, index } => {
             let at = known_at(known, index);
             let new = Known {
-                label: window_label(labels, base, at.width, at.label),
+                label: window_label(labels, window_of(labels, base, at), at.label),
                 width: 32,
             };
             with(copied(known), to, new)
@@ -82,22 +90,18 @@ pub fn known_at_target<L: Label>(
 ) -> Registers<L>
     ensures { result ≡ at_target L.Label.kind test left right known.now }
 {
-    match test {
-        Test::Less => match right {
-            Operand::Register(b) => {
-                let other = known_at(known, b);
-                narrow(copied(known), left, other.width)
-            }
-            Operand::Constant(k) => narrow(copied(known), left, bits_of(k.saturating_sub(1))),
-        },
-        Test::Equal => match right {
-            Operand::Register(b) => {
-                let first = known_at(known, left);
-                let second = known_at(known, b);
-                narrow(narrow(copied(known), left, second.width), b, first.width)
-            }
-            Operand::Constant(k) => narrow(copied(known), left, bits_of(k)),
-        },
+    match (test, right) {
+        (Test::Less, Operand::Register(b)) => narrow(copied(known), left, known_at(known, b).width),
+        (Test::Less, Operand::Constant(k)) => narrow(
+            copied(known),
+            left,
+            bits_of(k.saturating_sub(1)),
+        ),
+        (Test::Equal, Operand::Register(b)) => {
+            let narrowed = narrow(copied(known), left, known_at(known, b).width);
+            narrow(narrowed, b, known_at(known, left).width)
+        }
+        (Test::Equal, Operand::Constant(k)) => narrow(copied(known), left, bits_of(k)),
     }
 }
 
@@ -110,14 +114,8 @@ pub fn known_at_next<L: Label>(
 ) -> Registers<L>
     ensures { result ≡ at_next L.Label.kind test left right known.now }
 {
-    match test {
-        Test::Less => match right {
-            Operand::Register(b) => {
-                let first = known_at(known, left);
-                narrow(copied(known), b, first.width)
-            }
-            Operand::Constant(_) => copied(known),
-        },
-        Test::Equal => copied(known),
+    match (test, right) {
+        (Test::Less, Operand::Register(b)) => narrow(copied(known), b, known_at(known, left).width),
+        (Test::Less, Operand::Constant(_)) | (Test::Equal, _) => copied(known),
     }
 }

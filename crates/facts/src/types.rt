@@ -1,4 +1,9 @@
 // What is known of registers at a row, and what may leak there.
+ghost use Rattle.std.specs.Prelude.{◌≡◌};
+ghost use Rattle.facts.specs.Order.{knows};
+
+use labels::Label;
+use routine::LAST_REGISTER;
 
 // How a row is reached: settled on the way that the branches really take, guessed on any way that a guess may take.
 #[derive(Clone, Copy)]
@@ -29,12 +34,22 @@ pub struct Known<L> {
     pub width: u8,
 }
 
-// What is known of all sixteen registers.
-pub type Registers<L> = [Known<L>; 16];
+// What is known at the start: the register is 0, and depends on nothing.
+impl<L: Label> Default for Known<L> {
+    ghost is_default = { λ known. known ≡ knows L.Label.kind.lowest 0 };
 
-// What is known at a row in a mode: that it is never reached, or something of each of the sixteen registers.
-#[derive(Drop)]
-pub enum Fact<L> {
-    Unreached,
-    Reached(Registers<L>),
+    fn default() -> Known<L> {
+        Known {
+            label: L::lowest(),
+            width: 0,
+        }
+    }
 }
+
+pub const REGISTERS: usize = LAST_REGISTER as usize + 1;
+
+// What is known of all sixteen registers.
+pub type Registers<L> = [Known<L>; REGISTERS];
+
+// What is known at a row in a mode; none where the row is unreached, that is, it never runs in that mode.
+pub type Fact<L> = Option<Registers<L>>;

@@ -2,10 +2,11 @@
 #![tactic(auto)]
 
 use answers::answer;
+use cards::MAX_CARD;
 use std::io::{Read, Write};
 
 // One byte more than a card may have: what is longer is declined for its length, and need not be read to its end.
-const ENOUGH: u64 = 32769;
+const ENOUGH: u64 = MAX_CARD as u64 + 1;
 
 fn main(rt: HostRuntime) -> anyhow::Result<()> {
     let mut card = Vec::new(rt.alloc());

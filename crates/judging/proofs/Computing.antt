@@ -1,5 +1,5 @@
 -- The rules' verdict on a given routine, by computing: pass over the table until it is closed.
-use Rattle.std.proofs.Common.{◌≡◌, ℕ, zero, suc, ◌+◌, ◌*◌, ◌/◌, ◌<◌, ◌≤◌, Bool, true, ◌&&◌, List, [], ◌∷◌, length, get_or, set, sym, subst, ⊎_elim, arith}
+use Rattle.std.proofs.Common.{◌≡◌, ℕ, zero, suc, ◌+◌, ◌*◌, ◌/◌, ◌<◌, ◌≤◌, Bool, true, ◌&&◌, List, [], ◌∷◌, length, get_or, set, sym, subst, ⊎_elim, arith, Some, None}
 use Rattle.std.proofs.lemmas.List.{get_or-set_same, get_or-set_other, set_past}
 use Rattle.std.proofs.lemmas.Bool.{cases_eq, cases_lt, and_parts}
 use Rattle.labels.specs.Kind.{Kind, Lawful}
@@ -7,9 +7,7 @@ use Rattle.routine.specs.declared.rows.Row.{Row}
 use Rattle.facts.specs.declared.types.Mode.TheVariants.{Settled}
 use Rattle.facts.specs.declared.types.Sought.TheVariants.{AnyLeak, SpillOrGuessed}
 use Rattle.facts.specs.declared.types.Known.{Known}
-use Rattle.facts.specs.declared.types.Fact.{Fact}
-use Rattle.facts.specs.declared.types.Fact.TheVariants.{Unreached, Reached}
-use Rattle.facts.specs.Order.{start, below_fact, join_all}
+use Rattle.facts.specs.Order.{Fact, start, below_fact, join_all}
 use Rattle.facts.specs.Rules.{Handed}
 use Rattle.facts.specs.Tables.{slot, fact_at, hands_at, admits, Closed}
 use Rattle.facts.proofs.Orders.{all_least}
@@ -23,8 +21,8 @@ use Rattle.judging.proofs.Saying.{says}
 
 module _ {L : Type 0} (K : Kind L) where
   abbrev raised : Fact L → List (Known L) → Fact L
-  raised Unreached ks = Reached ks
-  raised (Reached gs) ks = Reached (join_all K gs ks)
+  raised None ks = Some ks
+  raised (Some gs) ks = Some (join_all K gs ks)
 
   abbrev handed : List (Fact L) → List (Handed L) → List (Fact L)
   handed table [] = table
@@ -51,7 +49,7 @@ module _ {L : Type 0} (K : Kind L) (labels : List L) (rows : List Row) where
 
   -- whether that table is closed
   abbrev pub is_closed : List (Fact L) → Bool
-  is_closed table = below_fact K (Reached (start K)) (fact_at table 0 Settled) && closed_from (2 * length rows) 0 table
+  is_closed table = below_fact K (Some (start K)) (fact_at table 0 Settled) && closed_from (2 * length rows) 0 table
 
   -- the verdict of the table after k passes
   abbrev pub verdict_after : L → ℕ → Verdict
@@ -59,21 +57,21 @@ module _ {L : Type 0} (K : Kind L) (labels : List L) (rows : List Row) where
       verdict_from (first_from K labels reader rows (computed k) AnyLeak 0 (2 * length rows)) (first_from K labels reader rows (computed k) SpillOrGuessed 0 (2 * length rows))
 
 module _ {L : Type 0} (K : Kind L) (laws : Lawful K) (labels : List L) (rows : List Row) where
-  raised_least : (f : Fact L) (ks : List (Known L)) (u : Fact L) → below_fact K f u ≡ true → below_fact K (Reached ks) u ≡ true → below_fact K (raised K f ks) u ≡ true
-  raised_least Unreached ks u p q = q
-  raised_least (Reached gs) ks Unreached p q = p
-  raised_least (Reached gs) ks (Reached us) p q = all_least K laws gs ks us p q
+  raised_least : (f : Fact L) (ks : List (Known L)) (u : Fact L) → below_fact K f u ≡ true → below_fact K (Some ks) u ≡ true → below_fact K (raised K f ks) u ≡ true
+  raised_least None ks u p q = q
+  raised_least (Some gs) ks None p q = p
+  raised_least (Some gs) ks (Some us) p q = all_least K laws gs ks us p q
 
-  set_under : (table other : List (Fact L)) (s : ℕ) (f : Fact L) → Under K table other → below_fact K f (get_or other s Unreached) ≡ true → Under K (set table s f) other
+  set_under : (table other : List (Fact L)) (s : ℕ) (f : Fact L) → Under K table other → below_fact K f (get_or other s None) ≡ true → Under K (set table s f) other
   set_under table other s f up below n =
       ⊎_elim
       (λ inside.
       ⊎_elim
-      (λ same. subst (λ x. below_fact K (get_or (set table s f) x Unreached) (get_or other x Unreached) ≡ true) (sym same)
-      (subst (λ g. below_fact K g (get_or other s Unreached) ≡ true) (sym (get_or-set_same table s f Unreached inside)) below))
-      (λ apart. subst (λ g. below_fact K g (get_or other n Unreached) ≡ true) (sym (get_or-set_other table s n f Unreached apart)) (up n))
+      (λ same. subst (λ x. below_fact K (get_or (set table s f) x None) (get_or other x None) ≡ true) (sym same)
+      (subst (λ g. below_fact K g (get_or other s None) ≡ true) (sym (get_or-set_same table s f None inside)) below))
+      (λ apart. subst (λ g. below_fact K g (get_or other n None) ≡ true) (sym (get_or-set_other table s n f None apart)) (up n))
       (cases_eq n s))
-      (λ past. subst (λ t. below_fact K (get_or t n Unreached) (get_or other n Unreached) ≡ true) (sym (set_past table s f past)) (up n))
+      (λ past. subst (λ t. below_fact K (get_or t n None) (get_or other n None) ≡ true) (sym (set_past table s f past)) (up n))
       (cases_lt s (length table))
 
   handed_under : (table other : List (Fact L)) (hs : List (Handed L)) → Under K table other → admits K other hs ≡ true → Under K (handed K table hs) other

@@ -1,5 +1,5 @@
 -- A row of a taken routine hands on to rows of it.
-use Rattle.std.proofs.Common.{◌≡◌, ℕ, ◌+◌, ◌-◌, ◌*◌, ◌<◌, Bool, true, false, List, length, get_or, sym, refl, ◌∙◌, subst, ⊎_elim, arith}
+use Rattle.std.proofs.Common.{◌≡◌, ℕ, ◌+◌, ◌-◌, ◌*◌, ◌<◌, Bool, true, false, List, length, get_or, sym, refl, ◌∙◌, subst, ⊎_elim, arith, Some, None}
 use Rattle.std.proofs.lemmas.Bool.{cases_lt, and_parts, ltb-true, false≢true}
 use Rattle.labels.specs.Kind.{Kind}
 use Rattle.routine.specs.Limits.{target_fits, ends}
@@ -9,12 +9,11 @@ use Rattle.routine.specs.declared.rows.Row.TheVariants as row
 use Rattle.facts.specs.declared.types.Mode.{Mode}
 use Rattle.facts.specs.declared.types.Mode.TheVariants.{Settled, Guessed}
 use Rattle.facts.specs.declared.types.Known.{Known}
-use Rattle.facts.specs.declared.types.Fact.{Fact}
-use Rattle.facts.specs.declared.types.Fact.TheVariants.{Unreached, Reached}
 use Rattle.facts.specs.Rules.{hands}
 use Rattle.facts.specs.Tables.{hands_fact}
 use Rattle.judging.specs.Steps.{Fitting, Valid}
 use Rattle.judging.proofs.Places.{slot_inside}
+use Rattle.facts.specs.Order.{Fact}
 
 module _ {L : Type 0} (K : Kind L) (labels : List L) (n i : ℕ) where
   -- a row that is not the last has a next one
@@ -42,8 +41,8 @@ module _ {L : Type 0} (K : Kind L) (labels : List L) (n i : ℕ) where
 
   fact_fits : (x : Row) (m : Mode) (f : Fact L) → i < n → target_fits n i x ≡ true → (i ≡ n - 1 → ends x ≡ true)
       → Fitting (2 * n) (hands_fact K labels x i m f)
-  fact_fits x m Unreached inside target last = tt
-  fact_fits x m (Reached ks) inside target last = row_fits x m ks inside target last
+  fact_fits x m None inside target last = tt
+  fact_fits x m (Some ks) inside target last = row_fits x m ks inside target last
 
 pub hands_fit : {L : Type 0} (K : Kind L) (labels : List L) (rows : List Row) → Valid rows labels → (i : ℕ) (m : Mode) (f : Fact L) → i < length rows
     → Fitting (2 * length rows) (hands_fact K labels (get_or rows i row.Halt) i m f)

@@ -6,3 +6,4 @@ pub mod Turns
 pub mod Searching
 pub mod Saying
 pub mod Computing
+pub mod Taken

@@ -6,12 +6,12 @@ use Rattle.routine.specs.declared.rows.Row.{Row}
 use Rattle.routine.specs.declared.rows.Row.TheVariants as row
 use Rattle.facts.specs.declared.types.Sought.{Sought}
 use Rattle.facts.specs.declared.types.Sought.TheVariants.{AnyLeak, SpillOrGuessed}
-use Rattle.facts.specs.declared.types.Fact.{Fact}
 use Rattle.facts.specs.Tables.{fact_at}
 use Rattle.facts.proofs.Monotone.{facts_leak}
 use Rattle.judging.specs.declared.verdict.Leak.{Leak}
 use Rattle.judging.specs.Verdicts.{Least, Passes, First, Found, Says}
 use Rattle.judging.specs.Steps.{verdict_from}
+use Rattle.facts.specs.Order.{Fact}
 
 module _ {L : Type 0} (K : Kind L) (laws : Lawful K) (labels : List L) (rows : List Row) (reader : L) (table : List (Fact L)) (least : Least K labels rows table) where
   none_passes : (sought : Sought) (leak : Leak) → First K labels rows reader sought table leak → Passes K labels rows reader sought → ⊥

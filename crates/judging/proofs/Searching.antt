@@ -8,14 +8,13 @@ use Rattle.facts.specs.declared.types.Mode.{Mode}
 use Rattle.facts.specs.declared.types.Reason.{Reason}
 use Rattle.facts.specs.declared.types.Reason.TheVariants as reason
 use Rattle.facts.specs.declared.types.Sought.{Sought}
-use Rattle.facts.specs.declared.types.Fact.{Fact}
-use Rattle.facts.specs.declared.types.Fact.TheVariants.{Unreached, Reached}
 use Rattle.facts.specs.Leaks.{counts, first_reason, sought_leak, leaks}
 use Rattle.facts.specs.Tables.{slot, leaks_fact, leaks_at}
 use Rattle.judging.specs.declared.verdict.Leak.{Leak}
 use Rattle.judging.specs.Verdicts.{reason_number, First, Found}
 use Rattle.judging.specs.Steps.{mode_at, leak_of, found_at, first_from}
 use Rattle.judging.proofs.Places.{slot_of_place, row_of_slot, mode_of_slot, slot_inside}
+use Rattle.facts.specs.Order.{Fact}
 
 -- the first reason that passes a test
 abbrev pick : Bool → Bool → Bool → Option Reason
@@ -77,8 +76,8 @@ module _ {L : Type 0} (K : Kind L) (labels : List L) (rows : List Row) (reader :
   -- no leak at a row with a fact
   none_at : (x : Row) (m : Mode) (sought : Sought) (f : Fact L) → leak_of K labels reader x m sought f ≡ None
       → (why : Reason) → counts sought m why ≡ true → leaks_fact K labels reader x why f ≡ false
-  none_at x m sought Unreached e why h = refl
-  none_at x m sought (Reached ks) e why h =
+  none_at x m sought None e why h = refl
+  none_at x m sought (Some ks) e why h =
       ⊎_elim (λ leak. absurd (both_ways _ (first_none (sought_leak K labels reader x m ks sought) e why) (and_from _ _ leak h))) (λ none. none)
       (cases_Bool (leaks K labels reader x ks why))
 
@@ -86,15 +85,15 @@ module _ {L : Type 0} (K : Kind L) (labels : List L) (rows : List Row) (reader :
   some_at : (x : Row) (m : Mode) (sought : Sought) (f : Fact L) (why : Reason) → leak_of K labels reader x m sought f ≡ Some why
       → (counts sought m why ≡ true) × (leaks_fact K labels reader x why f ≡ true)
       × ((other : Reason) → counts sought m other ≡ true → leaks_fact K labels reader x other f ≡ true → reason_number why ≤ reason_number other)
-  some_at x m sought Unreached why e = absurd (none_some why e)
-  some_at x m sought (Reached ks) why e =
+  some_at x m sought None why e = absurd (none_some why e)
+  some_at x m sought (Some ks) why e =
       let (here, first) = first_some (sought_leak K labels reader x m ks sought) why e in
       let (leak, counted) = and_parts _ _ here in
       (counted, leak, λ other c h. first other (and_from _ _ h c))
 
   module _ (table : List (Fact L)) (sought : Sought) where
     abbrev At : ℕ → Option Reason
-    At s = leak_of K labels reader (get_or rows (s / 2) row.Halt) (mode_at s) sought (get_or table s Unreached)
+    At s = leak_of K labels reader (get_or rows (s / 2) row.Halt) (mode_at s) sought (get_or table s None)
 
     -- no leak at the slots before s
     abbrev Before : ℕ → Type 0
@@ -107,19 +106,19 @@ module _ {L : Type 0} (K : Kind L) (labels : List L) (rows : List Row) (reader :
     one_more : (s : ℕ) → Before s → At s ≡ None → Before (s + 1)
     one_more s before none i m why inside early counted =
         ⊎_elim
-        (λ here. at_slot (λ n j k. counts sought k why ≡ true → leaks_fact K labels reader (get_or rows j row.Halt) why (get_or table n Unreached) ≡ false) i m
-        (none_at (get_or rows (slot i m / 2) row.Halt) (mode_at (slot i m)) sought (get_or table (slot i m) Unreached) (ap At here ∙ none) why) counted)
+        (λ here. at_slot (λ n j k. counts sought k why ≡ true → leaks_fact K labels reader (get_or rows j row.Halt) why (get_or table n None) ≡ false) i m
+        (none_at (get_or rows (slot i m / 2) row.Halt) (mode_at (slot i m)) sought (get_or table (slot i m) None) (ap At here ∙ none) why) counted)
         (⊎_elim (λ less. before i m why inside less counted) (λ more. absurd (omega arith)))
         (cases_order (slot i m) s)
 
     here_first : (s : ℕ) (why : Reason) → Before s → At s ≡ Some why → s < 2 * length rows
         → First K labels rows reader sought table (record { row = s / 2; mode = mode_at s; reason = why })
     here_first s why before some inside =
-        let (counted, leak, first) = some_at (get_or rows (s / 2) row.Halt) (mode_at s) sought (get_or table s Unreached) why some in
+        let (counted, leak, first) = some_at (get_or rows (s / 2) row.Halt) (mode_at s) sought (get_or table s None) why some in
         record {
           inside = omega arith;
           counted = counted;
-          leaking = subst (λ n. leaks_fact K labels reader (get_or rows (s / 2) row.Halt) why (get_or table n Unreached) ≡ true) (sym (slot_of_place s)) leak;
+          leaking = subst (λ n. leaks_fact K labels reader (get_or rows (s / 2) row.Halt) why (get_or table n None) ≡ true) (sym (slot_of_place s)) leak;
           earliest = λ other within c h.
               ⊎_elim
               (λ same. omega (arith, slot_of_place s, same, reason_first other c h same))
@@ -138,10 +137,10 @@ module _ {L : Type 0} (K : Kind L) (labels : List L) (rows : List Row) (reader :
             → leaks_at K labels reader rows table other.row other.mode other.reason ≡ true → slot other.row other.mode ≡ s
             → reason_number why ≤ reason_number other.reason
         reason_first other c h same =
-            at_slot (λ n j k. counts sought k other.reason ≡ true → leaks_fact K labels reader (get_or rows j row.Halt) other.reason (get_or table n Unreached) ≡ true
+            at_slot (λ n j k. counts sought k other.reason ≡ true → leaks_fact K labels reader (get_or rows j row.Halt) other.reason (get_or table n None) ≡ true
             → reason_number why ≤ reason_number other.reason) other.row other.mode
             (λ c h. (some_at (get_or rows (slot other.row other.mode / 2) row.Halt) (mode_at (slot other.row other.mode)) sought
-            (get_or table (slot other.row other.mode) Unreached) why (ap At same ∙ some)).2 other.reason c h) c h
+            (get_or table (slot other.row other.mode) None) why (ap At same ∙ some)).2 other.reason c h) c h
 
     from_slot : (n s : ℕ) → s + n ≡ 2 * length rows → Before s → Found K labels rows reader sought table (first_from K labels reader rows table sought s n)
     from_slot zero s end before = λ i m why inside counted. before i m why inside (omega (arith, slot_inside (length rows) i m inside)) counted

@@ -8,11 +8,9 @@ use Rattle.routine.specs.declared.rows.Row.TheVariants as row
 use Rattle.facts.specs.declared.types.Mode.{Mode}
 use Rattle.facts.specs.declared.types.Mode.TheVariants.{Settled}
 use Rattle.facts.specs.declared.types.Known.{Known}
-use Rattle.facts.specs.declared.types.Fact.{Fact}
-use Rattle.facts.specs.declared.types.Fact.TheVariants.{Unreached, Reached}
-use Rattle.facts.specs.Order.{start, below_fact}
+use Rattle.facts.specs.Order.{Fact, start, below_fact}
 use Rattle.facts.specs.Rules.{hands}
-use Rattle.facts.specs.Tables.{slot, fact_at, known_of, hands_fact, hands_at, admits}
+use Rattle.facts.specs.Tables.{slot, fact_at, hands_fact, hands_at, admits}
 use Rattle.facts.proofs.Orders.{all_refl, fact_trans}
 use Rattle.facts.proofs.Monotone.{facts_admitted}
 use Rattle.judging.specs.Steps.{mode_at, beginning, Under, Received, Running, weight}
@@ -23,35 +21,34 @@ use Rattle.judging.proofs.Weights.{clear_stale}
 
 module _ {L : Type 0} (K : Kind L) where
   abbrev nowhere : ℕ → List (Fact L)
-  nowhere n = replicate n Unreached
+  nowhere n = replicate n None
 
-  nothing_reached : (n s : ℕ) → get_or (nowhere n) s Unreached ≡ Unreached
+  nothing_reached : (n s : ℕ) → get_or (nowhere n) s None ≡ None
   nothing_reached n s =
-      ⊎_elim (λ h. get_or-replicate n s Unreached Unreached h) (λ h. get_or_past (nowhere n) s Unreached (subst (λ k. k ≤ s) (sym (length-replicate n Unreached)) h)) (cases_lt s n)
+      ⊎_elim (λ h. get_or-replicate n s None None h) (λ h. get_or_past (nowhere n) s None (subst (λ k. k ≤ s) (sym (length-replicate n None)) h)) (cases_lt s n)
 
   -- at the beginning
-  first_slot : (n : ℕ) → 0 < n → get_or (beginning K n) 0 Unreached ≡ Reached (start K)
-  first_slot n h = get_or-set_same (replicate n Unreached) 0 (Reached (start K)) Unreached (subst (λ k. 0 < k) (sym (length-replicate n Unreached)) h)
+  first_slot : (n : ℕ) → 0 < n → get_or (beginning K n) 0 None ≡ Some (start K)
+  first_slot n h = get_or-set_same (replicate n None) 0 (Some (start K)) None (subst (λ k. 0 < k) (sym (length-replicate n None)) h)
 
-  other_slot : (n s : ℕ) → s ≢ 0 → get_or (beginning K n) s Unreached ≡ Unreached
-  other_slot n s apart = get_or-set_other (replicate n Unreached) 0 s (Reached (start K)) Unreached apart ∙ nothing_reached n s
+  other_slot : (n s : ℕ) → s ≢ 0 → get_or (beginning K n) s None ≡ None
+  other_slot n s apart = get_or-set_other (replicate n None) 0 s (Some (start K)) None apart ∙ nothing_reached n s
 
   -- the beginning is at or below every table in which row 0 is reached
-  pub beginning_under : (n : ℕ) → 0 < n → (other : List (Fact L)) → below_fact K (Reached (start K)) (fact_at other 0 Settled) ≡ true → Under K (beginning K n) other
+  pub beginning_under : (n : ℕ) → 0 < n → (other : List (Fact L)) → below_fact K (Some (start K)) (fact_at other 0 Settled) ≡ true → Under K (beginning K n) other
   beginning_under n some other entered s =
       ⊎_elim
-      (λ zero'. subst (λ x. below_fact K (get_or (beginning K n) x Unreached) (get_or other x Unreached) ≡ true) (sym zero')
-      (subst (λ f. below_fact K f (get_or other 0 Unreached) ≡ true) (sym (first_slot n some)) entered))
-      (λ apart. subst (λ f. below_fact K f (get_or other s Unreached) ≡ true) (sym (other_slot n s apart)) refl)
+      (λ zero'. subst (λ x. below_fact K (get_or (beginning K n) x None) (get_or other x None) ≡ true) (sym zero')
+      (subst (λ f. below_fact K f (get_or other 0 None) ≡ true) (sym (first_slot n some)) entered))
+      (λ apart. subst (λ f. below_fact K f (get_or other s None) ≡ true) (sym (other_slot n s apart)) refl)
       (cases_eq s 0)
 
 module _ {L : Type 0} (K : Kind L) (laws : Lawful K) (labels : List L) (rows : List Row) where
-  pub running_begins : (stale : List Bool) → 0 < length rows → length stale ≡ 2 * length rows → get_or stale 0 false ≡ true
+  pub running_begins : (stale : List Bool) → 0 < length rows → get_or stale 0 false ≡ true
       → Running K labels rows (beginning K (2 * length rows)) stale
-  running_begins stale some long first = record {
+  running_begins stale some first = record {
     table_long = length-set _ _ _ ∙ length-replicate _ _;
-    stale_long = long;
-    entered = subst (λ f. below_fact K (Reached (start K)) f ≡ true) (sym (first_slot K (2 * length rows) (omega arith))) (all_refl K laws (start K));
+    entered = subst (λ f. below_fact K (Some (start K)) f ≡ true) (sym (first_slot K (2 * length rows) (omega arith))) (all_refl K laws (start K));
     under = λ other closed. beginning_under K (2 * length rows) (omega arith) other closed.entered;
     settled = λ i m inside calm.
         subst (λ f. admits K (beginning K (2 * length rows)) (hands_fact K labels (get_or rows i row.Halt) i m f) ≡ true)
@@ -65,29 +62,21 @@ module _ {L : Type 0} (K : Kind L) (laws : Lawful K) (labels : List L) (rows : L
       facts_admitted K laws (fact_at table i m) (fact_at other i m) (up (slot i m)) other labels (get_or rows i row.Halt) i m h
 
   -- what the code reads of a slot is what the table hands on there
-  at_place : (table : List (Fact L)) (s : ℕ) (f : Fact L) → get_or table s Unreached ≡ f
+  at_place : (table : List (Fact L)) (s : ℕ) (f : Fact L) → get_or table s None ≡ f
       → hands_at K labels rows table (s / 2) (mode_at s) ≡ hands_fact K labels (get_or rows (s / 2) row.Halt) (s / 2) (mode_at s) f
   at_place table s f is =
-      ap (hands_fact K labels (get_or rows (s / 2) row.Halt) (s / 2) (mode_at s)) (ap (λ n. get_or table n Unreached) (slot_of_place s) ∙ is)
-
-  is_unreached : (f : Fact L) → None ≡ known_of f → f ≡ Unreached
-  is_unreached Unreached e = refl
-  is_unreached (Reached ks) e = cc
-
-  is_reached : (f : Fact L) (ks : List (Known L)) → Some ks ≡ known_of f → f ≡ Reached ks
-  is_reached Unreached ks e = cc
-  is_reached (Reached gs) ks e = cc
+      ap (hands_fact K labels (get_or rows (s / 2) row.Halt) (s / 2) (mode_at s)) (ap (λ n. get_or table n None) (slot_of_place s) ∙ is)
 
   pub reached_hands : (table : List (Fact L)) (s : ℕ) (d : Fact L) (x : Row) (m : Mode) (ks : List (Known L)) → s < length table
-      → Some ks ≡ known_of (get_or table s d) → x ≡ get_or rows (s / 2) row.Halt → m ≡ mode_at s
+      → Some ks ≡ get_or table s d → x ≡ get_or rows (s / 2) row.Halt → m ≡ mode_at s
       → hands K labels x (s / 2) m ks ≡ hands_at K labels rows table (s / 2) (mode_at s)
   reached_hands table s d x m ks inside known same_row same-mode =
       ap₂ (λ y k. hands K labels y (s / 2) k ks) same_row same-mode
-      ∙ sym (at_place table s (Reached ks) (get_or_default table s Unreached d inside ∙ is_reached (get_or table s d) ks known))
+      ∙ sym (at_place table s (Some ks) (get_or_default table s None d inside ∙ sym known))
 
-  pub unreached_hands : (table : List (Fact L)) (s : ℕ) (d : Fact L) → s < length table → None ≡ known_of (get_or table s d)
+  pub unreached_hands : (table : List (Fact L)) (s : ℕ) (d : Fact L) → s < length table → None ≡ get_or table s d
       → [] ≡ hands_at K labels rows table (s / 2) (mode_at s)
-  unreached_hands table s d inside known = sym (at_place table s Unreached (get_or_default table s Unreached d inside ∙ is_unreached (get_or table s d) known))
+  unreached_hands table s d inside known = sym (at_place table s None (get_or_default table s None d inside ∙ sym known))
 
   module _ (table after : List (Fact L)) (stale stale' : List Bool) (s : ℕ) (run : Running K labels rows table stale) (inside : s < length table)
       (got : Received K (hands_at K labels rows table (s / 2) (mode_at s)) table after (set stale s false) stale') where
@@ -111,8 +100,7 @@ module _ {L : Type 0} (K : Kind L) (laws : Lawful K) (labels : List L) (rows : L
     pub running_turns : Running K labels rows after stale'
     running_turns = record {
       table_long = got.table_long ∙ run.table_long;
-      stale_long = got.stale_long ∙ length-set stale s false ∙ run.stale_long;
-      entered = fact_trans K laws (Reached (start K)) (fact_at table 0 Settled) (fact_at after 0 Settled) run.entered (got.grown 0);
+      entered = fact_trans K laws (Some (start K)) (fact_at table 0 Settled) (fact_at after 0 Settled) run.entered (got.grown 0);
       under = λ other closed. got.least other (run.under other closed)
           (hands_under table other (run.under other closed) (s / 2) (mode_at s) (closed.admitted (s / 2) (mode_at s) row_inside));
       settled = turn_settled;
@@ -121,12 +109,12 @@ module _ {L : Type 0} (K : Kind L) (laws : Lawful K) (labels : List L) (rows : L
     pub turn_lighter : get_or stale s false ≡ true → weight K after stale' < weight K table stale
     turn_lighter marked = omega (arith, got.lighter, clear_stale stale s marked)
 
-  pub running_ends : (table : List (Fact L)) (stale : List Bool) → Running K labels rows table stale → ((s : ℕ) → s < length stale → get_or stale s false ≡ false)
+  pub running_ends : (table : List (Fact L)) (stale : List Bool) → Running K labels rows table stale → ((s : ℕ) → s < length table → get_or stale s false ≡ false)
       → Least K labels rows table
   running_ends table stale run calm = record {
     closed = record {
       entered = run.entered;
-      admitted = λ i m h. run.settled i m h (calm (slot i m) (subst (λ n. slot i m < n) (sym run.stale_long) (slot_inside (length rows) i m h)));
+      admitted = λ i m h. run.settled i m h (calm (slot i m) (subst (λ n. slot i m < n) (sym run.table_long) (slot_inside (length rows) i m h)));
     };
     lowest = λ other closed i m h. run.under other closed (slot i m);
   }

@@ -1,3 +1,2 @@
 pub mod Verdicts
 pub mod Steps
-pub mod Parts

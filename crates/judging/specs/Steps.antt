@@ -8,10 +8,8 @@ use Rattle.facts.specs.declared.types.Mode.{Mode}
 use Rattle.facts.specs.declared.types.Mode.TheVariants.{Settled, Guessed}
 use Rattle.facts.specs.declared.types.Reason.{Reason}
 use Rattle.facts.specs.declared.types.Sought.{Sought}
-use Rattle.facts.specs.declared.types.Fact.{Fact}
-use Rattle.facts.specs.declared.types.Fact.TheVariants.{Unreached, Reached}
 use Rattle.facts.specs.Rules.{Handed}
-use Rattle.facts.specs.Order.{start, below_fact}
+use Rattle.facts.specs.Order.{Fact, start, below_fact}
 use Rattle.facts.specs.Raising.{room}
 use Rattle.facts.specs.Leaks.{sought_leak, first_reason}
 use Rattle.facts.specs.Tables.{slot, fact_at, hands_at, admits, Closed}
@@ -41,7 +39,7 @@ stale_count (b ∷ bs) = cond b 1 0 + stale_count bs
 module _ {Label : Type 0} (K : Kind Label) where
   -- the table before anything is handed on: only row 0 is reached, in settled mode
   abbrev pub beginning : ℕ → List (Fact Label)
-  beginning n = slice_set (replicate n Unreached) 0 (Reached (start K))
+  beginning n = slice_set (replicate n None) 0 (Some (start K))
 
   abbrev pub rooms : List (Fact Label) → ℕ
   rooms [] = 0
@@ -53,15 +51,14 @@ module _ {Label : Type 0} (K : Kind Label) where
 
   -- slot by slot, one table is at or below the other
   abbrev pub Under : List (Fact Label) → List (Fact Label) → Type 0
-  Under table other = (s : ℕ) → below_fact K (slice_index_or table s Unreached) (slice_index_or other s Unreached) ≡ true
+  Under table other = (s : ℕ) → below_fact K (slice_index_or table s None) (slice_index_or other s None) ≡ true
 
   -- the table and the stale slots, before and after facts were received
   pub record Received (hs : List (Handed Label)) (table after : List (Fact Label)) (stale stale' : List Bool) : Type 0 where
     pub table_long : length after ≡ length table
-    pub stale_long : length stale' ≡ length stale
     pub grown : Under table after
     -- a slot that is not stale was not, and is as it was
-    pub calm : (s : ℕ) → slice_index_or stale' s false ≡ false → (slice_index_or stale s false ≡ false) × (slice_index_or after s Unreached ≡ slice_index_or table s Unreached)
+    pub calm : (s : ℕ) → slice_index_or stale' s false ≡ false → (slice_index_or stale s false ≡ false) × (slice_index_or after s None ≡ slice_index_or table s None)
     pub admitted : admits K after hs ≡ true
     -- a table above the one before that admits the facts is above the one after
     pub least : (other : List (Fact Label)) → Under table other → admits K other hs ≡ true → Under after other
@@ -70,8 +67,7 @@ module _ {Label : Type 0} (K : Kind Label) where
   -- what holds between turns
   pub record Running (labels : List Label) (rows : List Row) (table : List (Fact Label)) (stale : List Bool) : Type 0 where
     pub table_long : length table ≡ 2 * length rows
-    pub stale_long : length stale ≡ 2 * length rows
-    pub entered : below_fact K (Reached (start K)) (fact_at table 0 Settled) ≡ true
+    pub entered : below_fact K (Some (start K)) (fact_at table 0 Settled) ≡ true
     pub under : (other : List (Fact Label)) → Closed K labels rows other → Under table other
     pub settled : (i : ℕ) (m : Mode) → i < length rows → slice_index_or stale (slot i m) false ≡ false → admits K table (hands_at K labels rows table i m) ≡ true
 
@@ -82,14 +78,14 @@ Valid rows labels = within rows (length labels) (length labels) ≡ true
 module _ {Label : Type 0} (K : Kind Label) (labels : List Label) (reader : Label) where
   -- the first reason of those sought for which a row with a fact leaks
   abbrev pub leak_of : Row → Mode → Sought → Fact Label → Option Reason
-  leak_of x m sought Unreached = None
-  leak_of x m sought (Reached ks) = first_reason (sought_leak K labels reader x m ks sought)
+  leak_of x m sought None = None
+  leak_of x m sought (Some ks) = first_reason (sought_leak K labels reader x m ks sought)
 
   -- the first leak of those sought in n slots from s on
   abbrev pub first_from : List Row → List (Fact Label) → Sought → ℕ → ℕ → Option Leak
   first_from rows table sought s zero = None
   first_from rows table sought s (suc n) =
-      found_at s (leak_of (slice_index_or rows (s / 2) row.Halt) (mode_at s) sought (slice_index_or table s Unreached)) (first_from rows table sought (s + 1) n)
+      found_at s (leak_of (slice_index_or rows (s / 2) row.Halt) (mode_at s) sought (slice_index_or table s None)) (first_from rows table sought (s + 1) n)
 
 -- the verdict, from the first leak and the first spill or guessed leak
 abbrev pub verdict_from : Option Leak → Option Leak → Verdict

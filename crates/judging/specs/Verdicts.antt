@@ -7,8 +7,7 @@ use Rattle.facts.specs.declared.types.Reason.{Reason}
 use Rattle.facts.specs.declared.types.Reason.TheVariants as reason
 use Rattle.facts.specs.declared.types.Sought.{Sought}
 use Rattle.facts.specs.declared.types.Sought.TheVariants.{AnyLeak, SpillOrGuessed}
-use Rattle.facts.specs.declared.types.Fact.{Fact}
-use Rattle.facts.specs.Order.{below_fact}
+use Rattle.facts.specs.Order.{Fact, below_fact}
 use Rattle.facts.specs.Leaks.{counts}
 use Rattle.facts.specs.Tables.{slot, fact_at, Closed, leaks_at}
 use Rattle.judging.specs.declared.verdict.Leak.{Leak}

@@ -1,5 +1,5 @@
 // Judging a routine that was taken.
-ghost use Rattle.std.specs.Prelude.{◌≡◌, ◌*◌, ◌<◌, ◌≤◌, length, Ok, Err};
+ghost use Rattle.std.specs.Prelude.{◌≡◌, ◌*◌, ◌<◌, ◌≤◌, length, MatchResult};
 ghost use Rattle.routine.specs.Parts.{rows_of, labels_of};
 ghost use Rattle.judging.specs.Verdicts.{Judges};
 
@@ -16,7 +16,7 @@ pub const MAX_FACTS: usize = 2 * MAX_ROWS;
 
 // Says whether the work table holds two facts a row. It moves nothing.
 pub fn check<L>(taken: &Taken<L>, table: &[Fact<L>]) -> Result<(), Refusal>
-    ensures { elim result [ Ok _ ↦ 2 * length (rows_of taken.now) ≤ length table.now | Err e ↦ (e ≡ Refusal.WorkTable) × (length table.now < 2 * length (rows_of taken.now)) ] }
+    ensures { MatchResult result (λ _. 2 * length (rows_of taken.now) ≤ length table.now) (λ e. (e ≡ Refusal.WorkTable) × (length table.now < 2 * length (rows_of taken.now))) }
 {
     if table.len() / 2 < taken.rows().len() {
         return Err(Refusal::WorkTable);
@@ -31,11 +31,9 @@ pub fn judge<'a, L: Label>(taken: Taken<'a, L>, reader: L, table: &mut [Fact<L>]
     ensures reads { result.reader ≡ reader }
     ensures judged { Judges L.Label.kind (labels_of taken.entry) (rows_of taken.entry) reader table.old table.new result.verdict }
 {
-    let rows = taken.rows();
-    let labels = taken.labels();
-    let work = &mut table[0..2 * rows.len()];
-    fill_least(rows, labels, work);
-    let verdict = verdict_under(rows, labels, reader, work);
+    let work = &mut table[..2 * taken.rows().len()];
+    fill_least(&taken, work);
+    let verdict = verdict_under(&taken, reader, work);
     Judged {
         taken,
         reader,

@@ -1,5 +1,5 @@
 -- Grades as a kind of label. A grade says how closely a value is held, by a number from 0 to 15.
-use Rattle.std.specs.Prelude.{ℕ, cond, [], ◌∷◌, Ok, Err, Result, nat_le, slice_index_or}
+use Rattle.std.specs.Prelude.{◌≡◌, ℕ, ◌<◌, ◌≤◌, cond, [], ◌∷◌, Ok, Err, Result, MatchResult, nat_le, slice_index_or}
 use Rattle.refusals.specs.declared.Refusal.{Refusal}
 use Rattle.refusals.specs.declared.Refusal.TheVariants.{GradeRange}
 use Rattle.labels.specs.Kind.{Kind}
@@ -32,6 +32,11 @@ grade_of n = slice_index_or (G0 ∷ G1 ∷ G2 ∷ G3 ∷ G4 ∷ G5 ∷ G6 ∷ G7
 -- what comes of a number that is offered as a grade: past 15 it is declined
 abbrev pub grade_for : ℕ → Result Grade Refusal
 grade_for n = cond (nat_le n 15) (Ok (grade_of n)) (Err GradeRange)
+
+-- the same, told of what came of it: the grade has the number, or the number is past 15
+pub record Grades (n : ℕ) (r : Result Grade Refusal) : Type 0 where
+  pub value : r ≡ grade_for n
+  pub told : MatchResult r (λ g. (number_of g ≡ n) × (n ≤ 15)) (λ e. (e ≡ GradeRange) × (15 < n))
 
 -- ordered by their numbers, joined to the larger; grade 0 is lowest, and a grade ranks by its number
 abbrev pub grades : Kind Grade

@@ -1,7 +1,6 @@
 // Grades as labels: the higher the grade of a value, the fewer may read it.
-ghost use Rattle.std.specs.Prelude.{◌≡◌, ◌<◌, ◌≤◌, MatchResult};
-ghost use Rattle.refusals.specs.declared.Refusal.TheVariants.{GradeRange};
-ghost use Rattle.labels.specs.Grades.{number_of, grade_for, grades};
+ghost use Rattle.std.specs.Prelude.{◌≡◌};
+ghost use Rattle.labels.specs.Grades.{number_of, Grades, grades};
 ghost use Rattle.labels.specs.GradesLawful.{grades_lawful};
 
 use crate::Label;
@@ -9,7 +8,7 @@ use refusals::Refusal;
 
 // How closely a value is held: a reader of a grade may read what has that grade or a lower one. There are sixteen,
 // numbered from 0.
-#[derive(Clone, Copy)]
+#[derive(Clone, Copy, PartialEq, Eq, PartialOrd, Ord)]
 pub enum Grade {
     G0,
     G1,
@@ -29,12 +28,13 @@ pub enum Grade {
     G15,
 }
 
-impl Grade {
-    // The grade of a number from 0 to 15; a larger one is declined.
-    pub fn new(number: u32) -> Result<Grade, Refusal>
-        ensures value { result ≡ grade_for number }
-        ensures told { MatchResult result (λ g. (number_of g ≡ number) × (number ≤ 15)) (λ e. (e ≡ GradeRange) × (15 < number)) }
-    {
+// The grade of a number from 0 to 15; a larger one is declined.
+impl TryFrom<u32> for Grade {
+    type Error = Refusal;
+
+    ghost try_from_gives = { Grades };
+
+    fn try_from(number: u32) -> Result<Grade, Refusal> {
         let grade = match number {
             0 => Grade::G0,
             1 => Grade::G1,
@@ -56,11 +56,13 @@ impl Grade {
         };
         Ok(grade)
     }
+}
 
-    pub fn number(self) -> u8
-        ensures { result ≡ number_of self }
-    {
-        self as u8
+impl From<Grade> for u8 {
+    ghost from_gives = { λ grade number. number ≡ number_of grade };
+
+    fn from(grade: Grade) -> u8 {
+        grade as u8
     }
 }
 
@@ -70,11 +72,12 @@ impl Label for Grade {
     ghost lawful = { grades_lawful };
 
     fn at_or_below(self, other: Grade) -> bool {
-        self.number() <= other.number()
+        self <= other
     }
 
     fn join(self, other: Grade) -> Grade {
-        if self.at_or_below(other) { other } else { self }
+        // By hand: that `self.max(other)` is this takes a proof of 256 cases, more than the check has steps for.
+        if self <= other { other } else { self }
     }
 
     fn lowest() -> Grade {

@@ -1,5 +1,5 @@
 -- Where two levels arrive after a row: at a row that is reached, with registers and stores as the relation asks.
-use Rattle.std.proofs.Common.{◌≡◌, ℕ, ◌+◌, ◌*◌, ◌<◌, ◌≤◌, Bool, true, false, ◌≢◌, List, [], ◌∷◌, ◌++◌, length, get_or, set, sym, refl, ◌∙◌, subst, ⊎_elim, arith, length-set}
+use Rattle.std.proofs.Common.{◌≡◌, ℕ, ◌+◌, ◌*◌, ◌<◌, ◌≤◌, Bool, true, false, ◌≢◌, List, [], ◌∷◌, ◌++◌, length, get_or, set, sym, refl, ◌∙◌, subst, ⊎_elim, arith, length-set, Some, None}
 use Rattle.std.proofs.lemmas.List.{get_or-set_same, get_or-set_other}
 use Rattle.std.proofs.lemmas.Bool.{cases_eq, and_parts, eqb-false, not-true, false≢true, true≢false}
 use Rattle.labels.specs.Kind.{Kind, Lawful}
@@ -13,9 +13,7 @@ use Rattle.routine.specs.declared.rows.Row.TheVariants as row
 use Rattle.facts.specs.declared.types.Mode.{Mode}
 use Rattle.facts.specs.declared.types.Mode.TheVariants.{Settled, Guessed}
 use Rattle.facts.specs.declared.types.Known.{Known}
-use Rattle.facts.specs.declared.types.Fact.{Fact}
-use Rattle.facts.specs.declared.types.Fact.TheVariants.{Unreached, Reached}
-use Rattle.facts.specs.Order.{below_all, below_fact}
+use Rattle.facts.specs.Order.{Fact, below_all, below_fact}
 use Rattle.facts.specs.Rules.{Handed, hand, hands, after, at_target, at_next}
 use Rattle.facts.specs.Tables.{slot, fact_at, hands_fact, admits, Closed}
 use Rattle.judging.specs.Steps.{Fitting, Valid}
@@ -85,15 +83,15 @@ module _ {L : Type 0} (K : Kind L) (laws : Lawful K) (labels : List L) (reader :
   module _ (rows : List Row) (valid : Valid rows labels) (table : List (Fact L)) (closed : Closed K labels rows table) where
     -- where something is handed to, the table knows of it
     abbrev pub Goes : Handed L → Type 0
-    Goes h = (gs : List (Known L)) × (fact_at table h.row h.mode ≡ Reached gs) × (below_all K h.known gs ≡ true) × (h.row < length rows)
+    Goes h = (gs : List (Known L)) × (fact_at table h.row h.mode ≡ Some gs) × (below_all K h.known gs ≡ true) × (h.row < length rows)
 
     abbrev pub AllGo : List (Handed L) → Type 0
     AllGo [] = Unit {0}
     AllGo (h ∷ hs) = Goes h × AllGo hs
 
-    pub above : (f : Fact L) (ks : List (Known L)) → below_fact K (Reached ks) f ≡ true → (gs : List (Known L)) × (f ≡ Reached gs) × (below_all K ks gs ≡ true)
-    above Unreached ks h = absurd (false≢true h)
-    above (Reached gs) ks h = (gs, refl, h)
+    pub above : (f : Fact L) (ks : List (Known L)) → below_fact K (Some ks) f ≡ true → (gs : List (Known L)) × (f ≡ Some gs) × (below_all K ks gs ≡ true)
+    above None ks h = absurd (false≢true h)
+    above (Some gs) ks h = (gs, refl, h)
 
     row_inside : (r : ℕ) (m : Mode) → slot r m < 2 * length rows → r < length rows
     row_inside r Settled h = omega arith
@@ -106,11 +104,11 @@ module _ {L : Type 0} (K : Kind L) (laws : Lawful K) (labels : List L) (reader :
         let (gs, is, low) = above (fact_at table x.row x.mode) x.known here in
         ((gs, is, low, row_inside x.row x.mode fit.0), all_go hs later fit.1)
 
-    pub hands_go : (r : ℕ) (m : Mode) (ks : List (Known L)) → r < length rows → fact_at table r m ≡ Reached ks → AllGo (hands K labels (get_or rows r row.Halt) r m ks)
+    pub hands_go : (r : ℕ) (m : Mode) (ks : List (Known L)) → r < length rows → fact_at table r m ≡ Some ks → AllGo (hands K labels (get_or rows r row.Halt) r m ks)
     hands_go r m ks inside is =
         all_go (hands K labels (get_or rows r row.Halt) r m ks)
         (subst (λ f. admits K table (hands_fact K labels (get_or rows r row.Halt) r m f) ≡ true) is (closed.admitted r m inside))
-        (hands_fit K labels rows valid r m (Reached ks) inside)
+        (hands_fit K labels rows valid r m (Some ks) inside)
 
     abbrev pub Two : Mode → Level → Level → Type 0
     Two m f g = Twins K labels reader rows table m f g

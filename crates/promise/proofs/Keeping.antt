@@ -11,9 +11,8 @@ use Rattle.facts.specs.declared.types.Mode.TheVariants.{Settled, Guessed}
 use Rattle.facts.specs.declared.types.Reason.{Reason}
 use Rattle.facts.specs.declared.types.Reason.TheVariants as reason
 use Rattle.facts.specs.declared.types.Sought.TheVariants.{AnyLeak, SpillOrGuessed}
-use Rattle.facts.specs.declared.types.Fact.{Fact}
 use Rattle.facts.specs.Order as order
-use Rattle.facts.specs.Order.{knows, known_at, below_all}
+use Rattle.facts.specs.Order.{Fact, knows, known_at, below_all}
 use Rattle.facts.specs.Leaks.{leaks}
 use Rattle.facts.specs.Tables.{fact_at, leaks_fact, leaks_at, Closed}
 use Rattle.judging.specs.Verdicts.{NoLeak}

@@ -11,7 +11,6 @@ use Rattle.routine.specs.declared.rows.Row.{Row}
 use Rattle.routine.specs.declared.rows.Row.TheVariants as row
 use Rattle.facts.specs.declared.types.Mode.{Mode}
 use Rattle.facts.specs.declared.types.Mode.TheVariants.{Settled, Guessed}
-use Rattle.facts.specs.declared.types.Fact.{Fact}
 use Rattle.facts.specs.Rules.{hands}
 use Rattle.facts.specs.Tables.{Closed}
 use Rattle.judging.specs.Steps.{Valid}
@@ -21,6 +20,7 @@ use Rattle.promise.specs.Guessing.{Build, Level, State, Answer, level, levels, s
 use Rattle.promise.specs.Promise.{Agree}
 use Rattle.promise.specs.Relation.{Stores, Twins, Stacks, Related}
 use Rattle.promise.proofs.Arrivals.{laid_length, laid_agree, stores_both, stores_count, outcomes, hands_go, AllGo, either_side, settled_branch, settled_moved, guessed_moved}
+use Rattle.facts.specs.Order.{Fact}
 
 abbrev mk : Level → List Level → Bool → List ℕ → List ℕ → List ℕ → State
 mk f fs fin ws p q = record { top = f; waiting = fs; finished = fin; words = ws; predictor = p; settler = q }

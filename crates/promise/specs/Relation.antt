@@ -1,13 +1,11 @@
 -- The relation between two machines that every step keeps.
-use Rattle.std.specs.Prelude.{◌≡◌, ℕ, ◌^◌, ◌<◌, ◌≤◌, true, List, [], ◌∷◌, length, slice_index, slice_index_or}
+use Rattle.std.specs.Prelude.{◌≡◌, ℕ, ◌^◌, ◌<◌, ◌≤◌, true, List, [], ◌∷◌, length, slice_index, slice_index_or, Some}
 use Rattle.labels.specs.Kind.{Kind}
 use Rattle.routine.specs.declared.rows.Row.{Row}
 use Rattle.facts.specs.declared.types.Mode.{Mode}
 use Rattle.facts.specs.declared.types.Mode.TheVariants.{Settled, Guessed}
 use Rattle.facts.specs.declared.types.Known.{Known}
-use Rattle.facts.specs.declared.types.Fact.{Fact}
-use Rattle.facts.specs.declared.types.Fact.TheVariants.{Reached}
-use Rattle.facts.specs.Order.{known_at}
+use Rattle.facts.specs.Order.{Fact, known_at}
 use Rattle.facts.specs.Tables.{fact_at}
 use Rattle.promise.specs.Moves.{Write}
 use Rattle.promise.specs.Guessing.{Level, State}
@@ -45,7 +43,7 @@ module _ {L : Type 0} (K : Kind L) (labels : List L) (reader : L) where
       pub same_row : f.row ≡ g.row
       pub inside : f.row < length rows
       pub known : List (Known L)
-      pub reached : fact_at table f.row m ≡ Reached known
+      pub reached : fact_at table f.row m ≡ Some known
       pub pairs : Pairs known f.registers g.registers
       pub stores : Stores f.stores g.stores
 

@@ -11,22 +11,16 @@ use labels::Label;
 pub mod events;
 
 // What C and G promise of two machines, for every kind of label.
-pub fn promise_is_kept<L: Label>() -> u8
+pub fn promise_is_kept<L: Label>()
     ensures { PromiseKept L.Label.kind }
-{
-    0
-}
+{}
 
 // What a closed table says of rows and registers is true along every run on words of the routine's size.
-pub fn facts_are_true<L: Label>() -> u8
+pub fn facts_are_true<L: Label>()
     ensures { FactsTrue L.Label.kind }
-{
-    0
-}
+{}
 
 // Level 0 of a guessing machine is a plain machine.
-pub fn guessing_is_invisible() -> u8
+pub fn guessing_is_invisible()
     ensures { GuessingInvisible }
-{
-    0
-}
+{}

@@ -15,11 +15,12 @@ pub enum Cause {
     BeyondLimit,
 }
 
-impl Cause {
-    pub fn number(self) -> u8
-        ensures { result ≡ cause_number self }
-    {
-        match self {
+// Causes are numbered in the order in which they are looked for.
+impl From<Cause> for u8 {
+    ghost from_gives = { λ cause number. number ≡ cause_number cause };
+
+    fn from(cause: Cause) -> u8 {
+        match cause {
             Cause::Form => 1,
             Cause::LeadingZero => 2,
             Cause::BeyondLimit => 3,

@@ -5,48 +5,51 @@ ghost use Rattle.report.specs.Lines.{mode_word, reason_word, leak_line, verdict_
 
 use crate::line::Line;
 use facts::types::{Mode, Reason};
+use itoa::Buffer;
 use judging::{Leak, Verdict};
 
-fn mode_word(mode: Mode) -> &'static [u8]
+// Words for the parts of a line. `impl Display` would serve `write!` alone, whose success nothing promises.
+fn mode_word(mode: Mode) -> &'static str
     ensures { result.now ≡ mode_word mode }
 {
     match mode {
-        Mode::Settled => b"settled",
-        Mode::Guessed => b"guessed",
+        Mode::Settled => "settled",
+        Mode::Guessed => "guessed",
     }
 }
 
-fn reason_word(reason: Reason) -> &'static [u8]
+fn reason_word(reason: Reason) -> &'static str
     ensures { result.now ≡ reason_word reason }
 {
     match reason {
-        Reason::Address => b"address",
-        Reason::Branch => b"branch",
-        Reason::Spill => b"spill",
+        Reason::Address => "address",
+        Reason::Branch => "branch",
+        Reason::Spill => "spill",
     }
 }
 
 // The whole line of a leak, from how it starts.
-fn leak_line(start: &[u8], leak: Leak) -> Line
+fn leak_line(start: &'static str, leak: Leak) -> Line
     requires { length start.now ≤ 10 }
     ensures { line_bytes result ≡ leak_line start.now leak }
 {
-    let mut line = Line::of(start);
-    line.push_decimal(leak.row);
-    line.push_text(b",");
-    line.push_text(mode_word(leak.mode));
-    line.push_text(b",");
-    line.push_text(reason_word(leak.reason));
-    line.push_text(b"\n");
-    line
+    Line::of(&[
+        start,
+        Buffer::new().format(leak.row),
+        ",",
+        mode_word(leak.mode),
+        ",",
+        reason_word(leak.reason),
+        "\n",
+    ])
 }
 
 pub fn verdict_line(verdict: Verdict) -> Line
     ensures { line_bytes result ≡ verdict_line verdict }
 {
     match verdict {
-        Verdict::C => Line::of(b"verdict,C,-,-,-\n"),
-        Verdict::G(leak) => leak_line(b"verdict,G,", leak),
-        Verdict::L(leak) => leak_line(b"verdict,L,", leak),
+        Verdict::C => Line::of(&["verdict,C,-,-,-\n"]),
+        Verdict::G(leak) => leak_line("verdict,G,", leak),
+        Verdict::L(leak) => leak_line("verdict,L,", leak),
     }
 }

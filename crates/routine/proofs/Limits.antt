@@ -1,8 +1,11 @@
 -- What follows from the limits, for whoever works on a routine that was taken. Nothing above unfolds `within` or `every`.
-use Rattle.std.proofs.Common.{◌≡◌, ℕ, zero, suc, ◌+◌, ◌-◌, ◌<◌, ◌≤◌, Bool, true, List, [], ◌∷◌, length, get_or, sym, refl, ap, ◌∙◌, zero-add, arith}
+use Rattle.std.proofs.Common.{◌≡◌, ℕ, zero, suc, ◌+◌, ◌-◌, ◌<◌, ◌≤◌, Bool, true, false, List, [], ◌∷◌, length, get_or, Some, None, Option, sym, subst, refl, ap, ◌∙◌, zero-add, zero-le, lt_trans, arith}
+use Rattle.std.specs.Option.{MatchOption}
+use Rattle.std.specs.List.{AllWithin, HoldsAt, enumerate_from}
+use Rattle.std.proofs.lemmas.List.FromFn.{length-enumerate_from, get_or-enumerate_from}
 use Rattle.routine.specs.declared.rows.Row.{Row}
 use Rattle.routine.specs.declared.rows.Row.TheVariants.{Halt}
-use Rattle.routine.specs.Limits.{row_count_fits, word_count_fits, fields_fit, target_fits, ends, every, every_field_fits, every_target_fits, last_ends, within}
+use Rattle.routine.specs.Limits.{row_count_fits, word_count_fits, fields_fit, target_fits, ends, every, every_field_fits, every_target_fits, last_ends, within, FirstFailing}
 use Rattle.std.proofs.lemmas.List.{get_or_default}
 use Rattle.std.proofs.lemmas.Bool.{and_parts, and_from, leb-true, eqb-true}
 
@@ -34,6 +37,34 @@ every_at_from test i (row ∷ rows) passes (suc j) h =
 pub every_at : (test : ℕ → Row → Bool) (rows : List Row) → every test 0 rows ≡ true
     → (j : ℕ) → j < length rows → test j (get_or rows j Halt) ≡ true
 every_at test rows passes j h = rw zero-add at (every_at_from test 0 rows passes j h)
+
+-- what a search for the first row that fails a test found
+pub searched : (test : Row → Bool) (rows : List Row) (found : Option ℕ)
+    → MatchOption found (AllWithin (λ row. test row ≡ true) rows 0 (length rows))
+    (λ i. (i < length rows) × HoldsAt (λ row. test row ≡ false) rows i × AllWithin (λ row. test row ≡ true) rows 0 i)
+    → MatchOption found (every (λ _ row. test row) 0 rows ≡ true) (FirstFailing (λ _ row. test row) rows)
+searched test rows None passes = every_from (λ _ row. test row) rows (λ j h. passes j Halt zero-le h)
+searched test rows (Some i) (inside, fails, passes) =
+    record { here = inside; fails = fails Halt; before = λ j h. passes j Halt zero-le h }
+
+-- the same where the test sees the row's number
+pub searched_numbered : (test : ℕ → Row → Bool) (rows : List Row) (found : Option ℕ)
+    → MatchOption found (AllWithin (λ p. test p.0 p.1 ≡ true) (enumerate_from 0 rows) 0 (length (enumerate_from 0 rows)))
+    (λ i. (i < length (enumerate_from 0 rows)) × HoldsAt (λ p. test p.0 p.1 ≡ false) (enumerate_from 0 rows) i
+    × AllWithin (λ p. test p.0 p.1 ≡ true) (enumerate_from 0 rows) 0 i)
+    → MatchOption found (every test 0 rows ≡ true) (FirstFailing test rows)
+searched_numbered test rows None passes =
+    every_from test rows (λ j h.
+    rw zero-add at (subst (λ p. test p.0 p.1 ≡ true) (get_or-enumerate_from 0 rows j (0, Halt) h)
+    (passes j (0, Halt) zero-le (rw (length-enumerate_from 0 rows) h))))
+searched_numbered test rows (Some i) (inside, fails, passes) =
+    let here = rw (length-enumerate_from 0 rows) at inside in
+    record {
+      here = here;
+      fails = rw zero-add at (subst (λ p. test p.0 p.1 ≡ false) (get_or-enumerate_from 0 rows i (0, Halt) here) (fails (0, Halt)));
+      before = λ j h.
+          rw zero-add at (subst (λ p. test p.0 p.1 ≡ true) (get_or-enumerate_from 0 rows j (0, Halt) (lt_trans h here)) (passes j (0, Halt) zero-le h));
+    }
 
 -- what code reads of a row is what a limit says of it
 pub read_row : (test : Row → Bool) (rows : List Row) (i : ℕ) (other : Row) {b : Bool} → i < length rows → b ≡ test (get_or rows i other)

@@ -10,17 +10,25 @@ pub fn address_of(words: usize, base: u32, index: u32) -> u32
     base.wrapping_add(index)
 }
 
-// Whether an index below 2 to the width can reach the word.
-pub fn reaches(words: usize, base: u32, width: u8, word: usize) -> bool
-    ensures { result ≡ in_window words base width word }
-{
-    let base = base as usize;
-    width >= 32 || base <= word && word < base + (1 << width)
+// The words that a base and an index below 2 to the width can name, in a memory of that many words.
+#[derive(Clone, Copy)]
+pub struct Window {
+    pub words: usize,
+    pub base: u32,
+    pub width: u8,
+}
+
+impl Window {
+    // Whether the word is one of them.
+    pub fn reaches(self, word: usize) -> bool
+        ensures { result ≡ in_window self.words self.base self.width word }
+    {
+        let base = self.base as usize;
+        self.width >= 32 || base <= word && word < base + (1 << self.width)
+    }
 }
 
 // Stands for the laws that everything above knows of the two.
-pub fn address_laws() -> u8
+pub fn address_laws()
     ensures { AddressLaws }
-{
-    0
-}
+{}

@@ -6,20 +6,11 @@ use crate::rows::Row;
 use crate::source::Source;
 
 // Borrows its source and adds the number of words. It is no `Copy`: a routine is taken once and handed on.
+#[derive(Drop)]
 pub struct Taken<'a, L> {
     source: &'a Source<'a, L>,
     words: usize,
     ghost fits: { within source.now.rows.now words (length source.now.labels.now) ≡ true },
-}
-
-// It owns no label, so it can be let go whatever `L` is.
-impl<'a, L> Drop for Taken<'a, L> {
-    fn drop(self) {
-        let Taken {
-            source: _,
-            words: _,
-        } = self;
-    }
 }
 
 // Takes the source. A caller shows that it is within the limits by an accepted `check`.

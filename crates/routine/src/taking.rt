@@ -1,5 +1,5 @@
 // Whether a source is within the limits, and if not, which limit it does not meet and where.
-ghost use Rattle.std.specs.Prelude.{◌≡◌, ◌<◌, true, length, Some, None, Ok, Err};
+ghost use Rattle.std.specs.Prelude.{◌≡◌, true, length, MatchOption, MatchResult};
 ghost use Rattle.routine.specs.Limits.{row_count_fits, word_count_fits, is_register, operand_fits, is_shift, right_fits, fields_fit, target_fits, ends, every_field_fits, every_target_fits, within, FirstFailing, DeclinedBy};
 
 use crate::rows::{Operand, Operation, Row};
@@ -19,7 +19,7 @@ pub const LAST_SHIFT: u32 = 31;
 
 // Says whether the source can be taken with that many words. The limits are tried in the order of the refusals' numbers.
 pub fn check<L>(source: &Source<L>, words: usize) -> Result<(), Refusal>
-    ensures { elim result [ Ok _ ↦ within source.now.rows.now words (length source.now.labels.now) ≡ true | Err e ↦ DeclinedBy source.now.rows.now words (length source.now.labels.now) e ] }
+    ensures { MatchResult result (λ _. within source.now.rows.now words (length source.now.labels.now) ≡ true) (DeclinedBy source.now.rows.now words (length source.now.labels.now)) }
 {
     let rows = source.rows;
     if !fits_row_count(rows) {
@@ -55,26 +55,18 @@ fn fits_word_count(words: usize, labels: usize) -> bool
 
 // The first row with a field that does not fit.
 fn first_misfit(rows: &[Row], words: usize) -> Option<usize>
-    ensures { elim result [ None ↦ every_field_fits rows.now words ≡ true | Some i ↦ FirstFailing (λ _ row. fields_fit words row) rows.now i ] }
+    ensures { MatchOption result (every_field_fits rows.now words ≡ true) (FirstFailing (λ _ row. fields_fit words row) rows.now) }
 {
-    for (i, row) in rows.iter().enumerate() {
-        if !fits_fields(*row, words) {
-            return Some(i);
-        }
-    }
-    None
+    rows.iter().position(|row| !fits_fields(*row, words))
 }
 
 // The first row with a target that does not fit.
 fn first_astray(rows: &[Row]) -> Option<usize>
-    ensures { elim result [ None ↦ every_target_fits rows.now ≡ true | Some i ↦ FirstFailing (target_fits (length rows.now)) rows.now i ] }
+    ensures { MatchOption result (every_target_fits rows.now ≡ true) (FirstFailing (target_fits (length rows.now)) rows.now) }
 {
-    for (i, row) in rows.iter().enumerate() {
-        if !fits_target(*row, i, rows.len()) {
-            return Some(i);
-        }
-    }
-    None
+    rows.iter()
+        .enumerate()
+        .position(|(i, row)| !fits_target(*row, i, rows.len()))
 }
 
 fn fits_fields(row: Row, words: usize) -> bool
@@ -136,15 +128,11 @@ fn names_register(register: u8) -> bool
 fn shifts(operation: Operation) -> bool
     ensures { result ≡ is_shift operation }
 {
-    match operation {
-        Operation::ShiftLeft | Operation::ShiftRight => true,
-        _ => false,
-    }
+    matches!(operation, Operation::ShiftLeft | Operation::ShiftRight)
 }
 
 // A branch to its own next row is refused too: both of its ways lead there.
 fn fits_target(row: Row, i: usize, rows: usize) -> bool
-    requires { i < rows }
     ensures { result ≡ target_fits rows i row }
 {
     match row {
@@ -155,7 +143,7 @@ fn fits_target(row: Row, i: usize, rows: usize) -> bool
             target,
         } => {
             let target = target as usize;
-            target < rows && target != i + 1
+            target < rows && i.checked_add(1) != Some(target)
         }
         Row::Jump { target } => (target as usize) < rows,
         _ => true,
@@ -165,8 +153,5 @@ fn fits_target(row: Row, i: usize, rows: usize) -> bool
 fn is_end(row: Row) -> bool
     ensures { result ≡ ends row }
 {
-    match row {
-        Row::Jump { target: _ } | Row::Halt => true,
-        _ => false,
-    }
+    matches!(row, Row::Jump { target: _ } | Row::Halt)
 }

@@ -3,92 +3,49 @@
 #![tactic(auto)]
 
 use answers::answer;
-use anyhow::anyhow;
+use anyhow::Context;
 use cards::read;
-use refusals::CardRefusal;
 use routine::rows::Row;
 use routine::{MAX_ROWS, MAX_WORDS};
 use std::fs;
 
-// What a list expects of its cards.
-#[derive(Clone, Copy)]
-enum Trial {
-    // the line that answers it
-    Line,
-    // the number of the cause that its refusal carries
-    Cause,
+// Whether the card is answered by the line.
+fn has_line(card: &[u8], line: &str) -> anyhow::Result<bool> {
+    Ok(answer(card).bytes().strip_suffix(b"\n") == Some(line.as_bytes()))
 }
 
-// How many cards were tried, and how many were answered as expected.
-#[derive(Clone, Copy)]
-struct Tally {
-    tried: usize,
-    expected: usize,
-}
-
-impl Tally {
-    fn count(&mut self, is_expected: bool) {
-        self.tried = self.tried.saturating_add(1);
-        if is_expected {
-            self.expected = self.expected.saturating_add(1);
-        }
-    }
-}
-
-fn has_line(card: &[u8], line: &str) -> bool {
-    answer(card).bytes().strip_suffix(b"\n") == Some(line.as_bytes())
-}
-
-// The number of the cause that a refusal carries, 0 where it has none.
-fn cause_number(refusal: CardRefusal) -> u8 {
-    match refusal.told().cause {
-        Some(cause) => cause.number(),
-        None => 0,
-    }
-}
-
-fn has_cause(card: &[u8], cause: &str) -> anyhow::Result<bool> {
-    let expected: u8 = cause.parse()?;
+// Whether the card is declined for the cause of that number.
+fn has_cause(card: &[u8], number: &str) -> anyhow::Result<bool> {
+    let number: u8 = number.parse()?;
     let mut rows = [Row::Halt; MAX_ROWS];
     let mut labels = [0; MAX_WORDS];
-    match read(card, &mut rows, &mut labels) {
-        Ok(_) => Ok(false),
-        Err(refusal) => Ok(cause_number(refusal) == expected),
-    }
-}
-
-fn is_expected(rt: &HostRuntime, trial: Trial, path: &str, expected: &str) -> anyhow::Result<bool> {
-    let card = fs::read(rt, path)?;
-    match trial {
-        Trial::Line => Ok(has_line(&card, expected)),
-        Trial::Cause => has_cause(&card, expected),
-    }
+    let Err(refusal) = read(card, &mut rows, &mut labels) else {
+        return Ok(false);
+    };
+    let cause = refusal.told().cause;
+    Ok(cause.is_some_and(|cause| u8::from(cause) == number))
 }
 
 // Tries each line of a list: a path, a space and what is expected of that card.
-fn try_list(rt: &HostRuntime, trial: Trial, list: &str) -> anyhow::Result<Tally> {
-    let list = fs::read_to_string(rt, list)?;
-    let mut tally = Tally {
-        tried: 0,
-        expected: 0,
-    };
-    for entry in list.lines() {
-        let Some((path, expected)) = entry.split_once(' ') else {
-            return Err(anyhow!("an entry without a space"));
-        };
-        let so = is_expected(rt, trial, path, expected)?;
-        if !so {
+fn try_list<F: Fn(&[u8], &str) -> anyhow::Result<bool>>(
+    rt: &HostRuntime,
+    list: &str,
+    is_expected: F,
+    what: &str,
+) -> anyhow::Result<()>
+    requires { F.IsAlwaysCallable is_expected }
+{
+    let entries = fs::read_to_string(rt, list)?;
+    let mut met = 0usize;
+    for entry in entries.lines() {
+        let (path, expected) = entry.split_once(' ').context("an entry without a space")?;
+        if is_expected(&fs::read(rt, path)?, expected)? {
+            met = met.saturating_add(1);
+        } else {
             println!(rt; "{path}: not answered by {expected}")?;
         }
-        tally.count(so);
     }
-    Ok(tally)
-}
-
-fn print_tally(rt: &HostRuntime, what: &str, tally: Tally) -> anyhow::Result<()> {
-    let tried = tally.tried;
-    let expected = tally.expected;
-    println!(rt; "{tried} cards, {expected} {what}")?;
+    println!(rt; "{} cards, {met} {what}", entries.lines().count())?;
     Ok(())
 }
 
@@ -104,15 +61,8 @@ fn try_tables(
     let mut labels = vec![in heap; 7; label_room]?;
     print!(rt; "room for {row_room} rows and {label_room} labels: ")?;
     match read(card, &mut rows, &mut labels) {
-        Ok(accepted) => {
-            let row_count = accepted.rows;
-            let words = accepted.words;
-            print!(rt; "{row_count} rows and {words} labels read")?;
-        }
-        Err(refusal) => {
-            let number = refusal.told().number;
-            print!(rt; "declined by {number}")?;
-        }
+        Ok(accepted) => print!(rt; "{} rows and {} labels read", accepted.rows, accepted.words)?,
+        Err(refusal) => print!(rt; "declined by {}", refusal.told().number)?,
     }
     let first = matches!(rows.first(), Some(Row::Fence));
     let last = matches!(rows.last(), Some(Row::Fence));
@@ -125,13 +75,16 @@ fn try_tables(
 }
 
 fn main(rt: HostRuntime) -> anyhow::Result<()> {
-    let lines = try_list(&rt, Trial::Line, "expected.txt")?;
-    print_tally(&rt, "answered as expected", lines)?;
-    let causes = try_list(&rt, Trial::Cause, "causes.txt")?;
-    print_tally(&rt, "declined for the expected cause", causes)?;
+    try_list(&rt, "expected.txt", has_line, "answered as expected")?;
+    try_list(
+        &rt,
+        "causes.txt",
+        has_cause,
+        "declined for the expected cause",
+    )?;
     let card = fs::read(&rt, "samples/open.card")?;
-    try_tables(&rt, &card, 6, 64)?;
-    try_tables(&rt, &card, 7, 63)?;
-    try_tables(&rt, &card, 7, 64)?;
-    try_tables(&rt, &card, 8, 65)
+    for (row_room, label_room) in [(6, 64), (7, 63), (7, 64), (8, 65)] {
+        try_tables(&rt, &card, row_room, label_room)?;
+    }
+    Ok(())
 }

@@ -8,7 +8,7 @@ use Rattle.answers.proofs.answering.answer.Goals as goal
 pub answer_accepted-requires : goal.answer_accepted-requires
 answer_accepted-requires c =
     let (card, well, same, accepts) = c.read.ensures.reads.only c.in-Ok.accepted c.in-Ok.is in
-    ((card_rows c.in-Ok.is card accepts).1, ((card_labels c.in-Ok.is card accepts).1, card_fits c.in-Ok.is card accepts well))
+    record { rows = (card_rows c.in-Ok.is card accepts).1; words = (card_labels c.in-Ok.is card accepts).1; fits = card_fits c.in-Ok.is card accepts well }
 
 pub returns-in-Ok : goal.returns-in-Ok
 returns-in-Ok c =

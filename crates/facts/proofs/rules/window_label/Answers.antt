@@ -21,18 +21,18 @@ loop-i-preserved g c =
     let labels = c.args.labels.now in
     let i = c.loop-i.i in
     let x = get_or labels i c.loop-i.joined in
-    let reached = in_window (length labels) c.args.base c.args.width i in
+    let reached = in_window c.args.window.words c.args.window.base c.args.window.width i in
     let joined : c.if-reaches.joined ≡ cond reached (K.join c.loop-i.joined x) c.loop-i.joined =
     elim c.if-reaches.branch [
       | then-reaches w ↦ w.joined-is ∙ w.join-joined.ensures.value
-          ∙ ap (K.join c.loop-i.joined) (get_or_read labels i _ c.loop-i-test.true w.index-labels-i.is c.loop-i.joined)
+          ∙ ap (K.join c.loop-i.joined) (get_or_read labels i _ c.loop-i-test.true c.index-labels-i.is c.loop-i.joined)
           ∙ sym (cond-true reached _ _ (sym c.reaches.ensures ∙ w.if-reaches.true))
       | else-reaches w ↦ w.joined-is ∙ sym (cond-false reached _ _ (sym c.reaches.ensures ∙ w.if-reaches.false))
     ] in
-    step K (length labels) c.args.base c.args.width i labels _ _ c.loop-i-test.true joined ∙ c.loop-i.invariant
+    step K c.args.window.words c.args.window.base c.args.window.width i labels _ _ c.loop-i-test.true joined ∙ c.loop-i.invariant
 
 pub returns : goal.returns
 returns g c =
     let labels = c.args.labels.now in
-    sym (at_drop_all (λ xs. join_from g.L.Label.kind (length labels) c.args.base c.args.width c.loop-i.i xs c.loop-i.joined) labels c.loop-i.i c.loop-i-test.false)
+    sym (at_drop_all (λ xs. join_from g.L.Label.kind c.args.window.words c.args.window.base c.args.window.width c.loop-i.i xs c.loop-i.joined) labels c.loop-i.i c.loop-i-test.false)
     ∙ c.loop-i.invariant

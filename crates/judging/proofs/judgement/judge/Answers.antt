@@ -1,18 +1,17 @@
-use Rattle.std.proofs.Common.{◌≡◌, ℕ, ◌-◌, ◌*◌, ◌≤◌, true, List, ◌++◌, length, take, drop, sym, ap, ◌∙◌, subst, subst₂, arith, rules}
+use Rattle.std.proofs.Common.{◌≡◌, ℕ, ◌*◌, ◌≤◌, List, ◌++◌, length, take, drop, sym, ap, ◌∙◌, subst, rules}
 use Rattle.std.proofs.lemmas.List.{take_at, drop_at, length-take-le}
 use Rattle.labels.specs.Kind.{Kind, Lawful}
-use Rattle.routine.specs.Limits.{within}
 use Rattle.routine.specs.Parts.{rows_of, labels_of}
-use Rattle.routine.proofs.Limits.{few_rows, words_labelled}
 use Rattle.routine.specs.declared.rows.Row.{Row}
+use Rattle.routine.specs.declared.taken.Taken.{Taken}
 use Rattle.facts.specs.declared.types.Sought.TheVariants.{AnyLeak, SpillOrGuessed}
-use Rattle.facts.specs.declared.types.Fact.{Fact}
 use Rattle.judging.specs.declared.verdict.Verdict.{Verdict}
-use Rattle.judging.specs.Steps.{Valid, first_from, verdict_from}
+use Rattle.judging.specs.Steps.{first_from, verdict_from}
 use Rattle.judging.specs.Verdicts.{Least, Says, Judges}
 use Rattle.judging.proofs.Searching.{first_found}
 use Rattle.judging.proofs.Saying.{says}
 use Rattle.judging.proofs.judgement.judge.Goals as goal
+use Rattle.facts.specs.Order.{Fact}
 
 -- from the work part to the whole table
 judges : {L : Type 0} (K : Kind L) (laws : Lawful K) (labels : List L) (rows : List Row) (reader : L) (before work : List (Fact L)) (verdict : Verdict) (n : ℕ)
@@ -31,48 +30,38 @@ judges K laws labels rows reader before work verdict n same long least is =
       says = subst (λ table. Says K labels rows reader table verdict) (sym front) said;
     }
 
--- a taken routine's rows are valid
-valid : {L : Type 0} (labels : List L) (rows : List Row) (words : ℕ) → within rows words (length labels) ≡ true → Valid rows labels
-valid labels rows words fits = subst (λ w. within rows w (length labels) ≡ true) (words_labelled rows words (length labels) fits) fits
-
 -- the part of the table that is worked on is as long as the rows ask
-part_long : {X : Type 0} (table : List X) (rows rows' : List Row) → rows ≡ rows' → 2 * length rows' ≤ length table → length (take (2 * length rows - 0) table) ≡ 2 * length rows
+part_long : {X : Type 0} (table : List X) (rows rows' : List Row) → rows ≡ rows' → 2 * length rows' ≤ length table → length (take (2 * length rows) table) ≡ 2 * length rows'
 part_long table rows rows' same few =
-    let whole : 2 * length rows - 0 ≡ 2 * length rows = omega arith in
-    ap (λ n. length (take n table)) whole ∙ length-take-le (2 * length rows) table (subst (λ r. 2 * length r ≤ length table) (sym same) few)
+    subst (λ rs. length (take (2 * length rs) table) ≡ 2 * length rows') (sym same) (length-take-le (2 * length rows') table few)
 
 pub fill_least-requires : goal.fill_least-requires
-fill_least-requires g c =
-    let taken = c.args.taken in (
-      search rules,
-      (
-        subst₂ Valid (sym c.rows-rows.ensures) (sym c.labels-labels.ensures) (valid (labels_of taken) (rows_of taken) taken.words taken.fits),
-        part_long c.args.table.now c.rows-rows.result.now (rows_of taken) c.rows-rows.ensures c.requires,
-      ),
-    )
+fill_least-requires g c = (search rules, part_long c.args.table.now c.rows.result.now (rows_of c.args.taken) c.rows.ensures c.requires)
 
 pub verdict_under-verdict-requires : goal.verdict_under-verdict-requires
 verdict_under-verdict-requires g c =
-    let taken = c.args.taken in (
-      search rules,
-      (
-        c.fill_least.auto.table ∙ part_long c.args.table.now c.rows-rows.result.now (rows_of taken) c.rows-rows.ensures c.requires,
-        subst (λ rows. length rows ≤ 256) (sym c.rows-rows.ensures) (few_rows (rows_of taken) taken.words (length (labels_of taken)) taken.fits),
-      ),
-    )
+    (search rules, c.fill_least.auto.table ∙ part_long c.args.table.now c.rows.result.now (rows_of c.args.taken) c.rows.ensures c.requires)
 
-pub returns : goal.returns
-returns g c =
-    let rows = c.rows-rows.result.now in
-    let table = c.args.table.now in
-    let work = c.fill_least.new.table in
-    let whole : 2 * length rows - 0 ≡ 2 * length rows = omega arith in
-    let long = c.fill_least.auto.table ∙ part_long table rows (rows_of c.args.taken) c.rows-rows.ensures c.requires in
-    let judged = judges g.L.Label.kind g.L.Label.lawful c.labels-labels.result.now rows c.args.reader table work c.verdict_under-verdict.result
-    (2 * length rows - 0) whole long c.fill_least.ensures c.verdict_under-verdict.ensures in
-    record {
-      moved = search rules;
-      reads = search rules;
-      judged = subst₂ (λ ls rs. Judges g.L.Label.kind ls rs c.args.reader table (work ++ drop (2 * length rows - 0) table) c.verdict_under-verdict.result)
-          c.labels-labels.ensures c.rows-rows.ensures judged;
-    }
+-- what was judged, by the rows that were read from the taken routine
+judged : {L : Type 0} (K : Kind L) (laws : Lawful K) (taken : Taken L) (rs : List Row) (reader : L) (before work : List (Fact L)) (verdict : Verdict)
+    → rs ≡ rows_of taken → length work ≡ 2 * length (rows_of taken) → Least K (labels_of taken) (rows_of taken) work
+    → verdict ≡ verdict_from (first_from K (labels_of taken) reader (rows_of taken) work AnyLeak 0 (length work))
+    (first_from K (labels_of taken) reader (rows_of taken) work SpillOrGuessed 0 (length work))
+    → Judges K (labels_of taken) (rows_of taken) reader before (work ++ drop (2 * length rs) before) verdict
+judged K laws taken rs reader before work verdict same long least is =
+    judges K laws (labels_of taken) (rows_of taken) reader before work verdict (2 * length rs) (ap (λ rows. 2 * length rows) same) long least is
+
+pub returns-clause-judged : goal.returns-clause-judged
+returns-clause-judged g c =
+    let taken = c.args.taken in
+    let long = c.fill_least.auto.table ∙ part_long c.args.table.now c.rows.result.now (rows_of taken) c.rows.ensures c.requires in
+    judged g.L.Label.kind g.L.Label.lawful taken c.rows.result.now c.args.reader c.args.table.now c.fill_least.new.table c.verdict_under-verdict.result
+    c.rows.ensures long c.fill_least.ensures c.verdict_under-verdict.ensures
+
+pub invariant_of-result : goal.invariant_of-result
+invariant_of-result g c =
+    let taken = c.args.taken in
+    let long = c.fill_least.auto.table ∙ part_long c.args.table.now c.rows.result.now (rows_of taken) c.rows.ensures c.requires in
+    let given = judged g.L.Label.kind g.L.Label.lawful taken c.rows.result.now c.args.reader c.args.table.now c.fill_least.new.table c.verdict_under-verdict.result
+    c.rows.ensures long c.fill_least.ensures c.verdict_under-verdict.ensures in
+    record { given = ∣ (take (2 * length (rows_of taken)) (c.fill_least.new.table ++ drop (2 * length c.rows.result.now) c.args.table.now), given.least, given.says) ∣₁ }
