@@ -6,7 +6,7 @@ mod HeadLines
 mod LineTexts
 mod Numerals
 mod Outcomes
-pub mod Painting
+mod Painting
 mod RowLines
 mod Splits
 mod Stepping

@@ -1,5 +1,5 @@
 -- Lemmas on the tables of a draft.
-use Rattle.std.proofs.Common.{◌≡◌, ℕ, ◌-◌, ◌≤◌, Bool, true, cond, ◌&&◌, ltb, leb, List, [], ◌∷◌, ◌++◌, length, get_or, take, drop, replicate, sym, ap, ◌∙◌, ⊎_elim, arith, rules}
+use Rattle.std.proofs.Common.{◌≡◌, ℕ, ◌-◌, ◌≤◌, Bool, true, cond, ◌&&◌, ltb, leb, List, [], ◌∷◌, ◌++◌, length, get_or, drop, replicate, sym, ap, ◌∙◌, ⊎_elim, arith, rules}
 use borrow.Rule.Slice.PartMut.{mid_of, put_mid}
 use Rattle.std.proofs.lemmas.List.{places, length-replicate, length-drop, length-take-le, get_or_append_left, get_or_push, length_push}
 use Rattle.std.proofs.lemmas.Bool.{cases_lt}
@@ -8,10 +8,6 @@ use Rattle.routine.specs.declared.rows.Row.{Row}
 use Rattle.routine.specs.declared.rows.Row.TheVariants.{Halt}
 use Rattle.routine.specs.Limits.{every}
 use Rattle.routine.proofs.Limits.{every_from, every_at}
-
--- a part from the start, as the code hands it on
-pub part : {X : Type 0} (n : ℕ) (xs : List X) → take (n - 0) xs ≡ take n xs
-part n xs = let whole : n - 0 ≡ n = omega arith in ap (λ m. take m xs) whole
 
 -- a part of the words has the label
 pub painted : (labels written : List ℕ) (from to label : ℕ) → from ≤ to → to ≤ length labels
