@@ -185,6 +185,7 @@ fn slow_rows(heap: Global) -> Result<Vec<Row>, AllocError> {
             right: Operand::Constant(1),
         },
     ]?;
+    // No `flat_map`: in a closure the range of `full` is not known, and the sums are not proved.
     for full in 0..6u8 {
         let from = 2 * full + 1;
         let bit = from + 1;

@@ -110,6 +110,7 @@ impl Draft {
         };
         // The head and the `lab` lines come before all rows.
         let first = self.labs as usize + 2;
+        // No `map_err`: what its closure would ask of a refusal is not proved.
         match check(&source, words) {
             Ok(()) => Ok(()),
             Err(refusal) => match refusal {

@@ -148,7 +148,8 @@ impl<'t, L: Label> Work<'t, L> {
         }
     }
 
-    // The first stale slot at or after a place and before an end.
+    // The first stale slot at or after a place and before an end. Here and in the next one a `match` stands where `map` and `or_else`
+    // would: after a closure the proof is not found.
     fn stale_between(&self, from: usize, to: usize) -> Option<usize>
         requires ordered { from ≤ to }
         requires inside { to ≤ length self.now.table.now }
@@ -180,6 +181,7 @@ pub(crate) fn fill_least<L: Label>(routine: &Taken<L>, table: &mut [Fact<L>])
 {
     let mut work = Work::begin(table);
     let mut place = 0;
+    // No iterator: each turn changes what is stale.
     while let Some(next) = work.next_stale(place) {
         let fact = known(work.fact(next));
         work.turn(routine, next, fact);

@@ -1,5 +1,5 @@
 use Rattle.std.proofs.Common.{◌≡◌, ℕ, ◌+◌, ◌<◌, cond, List, length, get_or, drop, sym, ap, ◌∙◌}
-use Rattle.std.proofs.lemmas.List.{at_drop_more, at_drop_all, get_or_read}
+use Rattle.std.proofs.lemmas.List.{at_drop_more, get_or_read}
 use Rattle.std.proofs.lemmas.Bool.{cond-true, cond-false}
 use Rattle.labels.specs.Kind.{Kind}
 use Rattle.routine.specs.Address.{in_window}
@@ -30,9 +30,3 @@ loop-i-preserved g c =
       | else-reaches w ↦ w.joined-is ∙ sym (cond-false reached _ _ (sym c.reaches.ensures ∙ w.if-reaches.false))
     ] in
     step K c.args.window.words c.args.window.base c.args.window.width i labels _ _ c.loop-i-test.true joined ∙ c.loop-i.invariant
-
-pub returns : goal.returns
-returns g c =
-    let labels = c.args.labels.now in
-    sym (at_drop_all (λ xs. join_from g.L.Label.kind c.args.window.words c.args.window.base c.args.window.width c.loop-i.i xs c.loop-i.joined) labels c.loop-i.i c.loop-i-test.false)
-    ∙ c.loop-i.invariant

@@ -35,9 +35,6 @@ part_long : {X : Type 0} (table : List X) (rows rows' : List Row) → rows ≡ r
 part_long table rows rows' same few =
     subst (λ rs. length (take (2 * length rs) table) ≡ 2 * length rows') (sym same) (length-take-le (2 * length rows') table few)
 
-pub fill_least-requires : goal.fill_least-requires
-fill_least-requires g c = (search rules, part_long c.args.table.now c.rows.result.now (rows_of c.args.taken) c.rows.ensures c.requires)
-
 pub verdict_under-verdict-requires : goal.verdict_under-verdict-requires
 verdict_under-verdict-requires g c =
     (search rules, c.fill_least.auto.table ∙ part_long c.args.table.now c.rows.result.now (rows_of c.args.taken) c.rows.ensures c.requires)

@@ -1,19 +1,7 @@
-use Rattle.std.proofs.Common.{sym, refl}
+use Rattle.std.proofs.Common.{sym}
 use Rattle.routine.specs.Limits.{ends}
 use Rattle.routine.proofs.Limits.{read_row, last_row, within_from}
 use Rattle.routine.proofs.taking.check.Goals as goal
-
-pub returns-then-not-is_end : goal.returns-then-not-is_end
-returns-then-not-is_end g c =
-    let rows = c.args.source.now.rows.now in
-    let count = sym c.if-not-fits_row_count.ensures in (
-      count,
-      sym c.if-not-fits_word_count.ensures,
-      c.in_default.ensures,
-      c.in_default-first_astray.ensures,
-      refl,
-      read_row ends rows _ _ (last_row rows count) c.if-not-is_end.ensures,
-    )
 
 pub returns : goal.returns
 returns g c =
