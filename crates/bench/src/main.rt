@@ -205,6 +205,7 @@ fn slow_rows(heap: Global) -> Result<Vec<Row>, AllocError> {
             },
         ])?;
     }
+    // Loads fill what room is left before the end.
     rows.extend((0..MAX_ROWS).map(|i| Row::Load {
         to: 14,
         base: 0,

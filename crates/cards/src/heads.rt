@@ -40,7 +40,7 @@ impl LabelKind {
     {
         match self {
             LabelKind::Makers => u32::from(u16::MAX),
-            // Kept: the crate of the grades, which is not below this one, has no plainer word for the last of them.
+            // A number: this crate does not stand on the one that names the last grade.
             LabelKind::Grades => 15,
         }
     }

@@ -26,7 +26,7 @@ fn fits_extent(text: &[u8]) -> bool
 fn take_lines(reader: &mut Reader, draft: &mut Draft) -> Result<(), CardRefusal>
     ensures { Takes (λ card. lines_in card (reader.old.line + 1) (lines_of (left_in reader.old))) draft.old draft.new result }
 {
-    // Kept a `while`: the rules want the reader moved by its own method, and its line number goes with each line.
+    // A `while`: each line goes with the number that the reader has just counted.
     while let Some(line) = reader.next_line() {
         draft.take_line(reader.line, line)?;
     }

@@ -38,7 +38,7 @@ fn all_joined<L: Label>(one: &Registers<L>, other: &Registers<L>) -> Registers<L
     let a: &[Known<L>] = one;
     let b: &[Known<L>] = other;
     let mut joined = copied(one);
-    // By index: the proofs of `array::from_fn` and of a loop over `iter_mut` did not close.
+    // By index: after a loop over `iter_mut` nothing is known of what it wrote, and no proof was found with `array::from_fn`.
     for i in 0..REGISTERS {
         joined[i] = known_joined(a[i], b[i]);
     }
@@ -46,7 +46,7 @@ fn all_joined<L: Label>(one: &Registers<L>, other: &Registers<L>) -> Registers<L
 }
 
 // A copy of a fact, for whoever hands on what is known while facts change.
-pub fn known<L: Label>(fact: &Fact<L>) -> Option<Registers<L>>
+pub fn copy_of<L: Label>(fact: &Fact<L>) -> Option<Registers<L>>
     ensures { result ≡ fact.now }
 {
     fact.as_ref().map(copied)

@@ -47,10 +47,11 @@ impl<L: Label> Default for Known<L> {
     }
 }
 
+// How many registers there are.
 pub const REGISTERS: usize = LAST_REGISTER as usize + 1;
 
 // What is known of all sixteen registers.
 pub type Registers<L> = [Known<L>; REGISTERS];
 
-// What is known at a row in a mode; none where the row is unreached, that is, it never runs in that mode.
+// What is known at a row in a mode; none where the row is unreached, that is, never reached in that mode.
 pub type Fact<L> = Option<Registers<L>>;

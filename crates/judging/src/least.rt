@@ -8,14 +8,14 @@ ghost use Rattle.judging.specs.Steps.{mode_at, beginning, Fitting, Received, Run
 ghost use Rattle.judging.specs.Verdicts.{Least};
 
 use crate::judgement::MAX_FACTS;
-use facts::order::{known, raised};
+use facts::order::{copy_of, raised};
 use facts::rules::{known_after, known_at_next, known_at_target};
 use facts::types::{Fact, Known, Mode, REGISTERS, Registers};
 use labels::Label;
 use routine::Taken;
 use routine::rows::Row;
 
-// Where a row's fact in a mode stands. The table is handed in as one slice, by rule, with two facts a row.
+// Where a row's fact in a mode stands: callers lend the table as one slice, two facts a row.
 fn slot_of(row: usize, mode: Mode) -> usize
     requires { slot row mode < 2 ^ 64 }
     ensures { result ≡ slot row mode }
@@ -68,6 +68,7 @@ impl<'t, L: Label> Work<'t, L> {
         requires { at < length self.now.table.now }
         ensures { result.now ≡ slice_index_or self.now.table.now at None }
     {
+        // Taken whole first: an element is not lent through a `&` of what holds the `&mut`.
         let facts = &*self.table;
         &facts[at]
     }
@@ -183,7 +184,7 @@ pub(crate) fn fill_least<L: Label>(routine: &Taken<L>, table: &mut [Fact<L>])
     let mut place = 0;
     // No iterator: each turn changes what is stale.
     while let Some(next) = work.next_stale(place) {
-        let fact = known(work.fact(next));
+        let fact = copy_of(work.fact(next));
         work.turn(routine, next, fact);
         place = next;
     }

@@ -34,7 +34,7 @@ abbrev pub grade_for : ℕ → Result Grade Refusal
 grade_for n = cond (nat_le n 15) (Ok (grade_of n)) (Err GradeRange)
 
 -- the same, told of what came of it: the grade has the number, or the number is past 15
-pub record Grades (n : ℕ) (r : Result Grade Refusal) : Type 0 where
+pub record IsGradeFor (n : ℕ) (r : Result Grade Refusal) : Type 0 where
   pub value : r ≡ grade_for n
   pub told : MatchResult r (λ g. (number_of g ≡ n) × (n ≤ 15)) (λ e. (e ≡ GradeRange) × (15 < n))
 

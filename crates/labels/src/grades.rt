@@ -1,6 +1,6 @@
 // Grades as labels: the higher the grade of a value, the fewer may read it.
 ghost use Rattle.std.specs.Prelude.{◌≡◌};
-ghost use Rattle.labels.specs.Grades.{number_of, Grades, grades};
+ghost use Rattle.labels.specs.Grades.{number_of, IsGradeFor, grades};
 ghost use Rattle.labels.specs.GradesLawful.{grades_lawful};
 
 use crate::Label;
@@ -32,7 +32,7 @@ pub enum Grade {
 impl TryFrom<u32> for Grade {
     type Error = Refusal;
 
-    ghost try_from_gives = { Grades };
+    ghost try_from_gives = { IsGradeFor };
 
     fn try_from(number: u32) -> Result<Grade, Refusal> {
         let grade = match number {

@@ -24,7 +24,7 @@ pub enum Letter {
 }
 
 // The step's letter, the row at which it was decided, the level after it, and a number: the address of R and T, the row
-// followed of B, W and J, else 0. Each event has all four, as the rules have it, so the letter holds none of them.
+// followed of B, W and J, else 0. Each event has a row, a level and a number, so the letter holds none of them.
 #[derive(Clone, Copy)]
 pub struct Event {
     pub letter: Letter,
