@@ -18,14 +18,14 @@ fn fill_labels<L: Numbered>(numbers: &[u32], labels: &mut [L])
     requires { length numbers.now ≡ length labels.old }
     ensures { labels.new ≡ map L.Numbered.numbered numbers.now }
 {
-    // By index: after a loop over `iter_mut` nothing is known of what it wrote.
+    // By index: of what a loop over a `zip` of `iter_mut` wrote nothing is known.
     for (i, number) in numbers.iter().enumerate() {
         labels[i] = L::from_number(*number);
     }
 }
 
 // The line of the verdict on rows, with labels and a reader by the numbers that a kind writes for them. The tables of labels and of
-// facts are for working in.
+// facts are for working in. What is read goes as parameters: a struct for one call would be no plainer.
 fn answer_as<L: Numbered>(
     rows: &[Row],
     numbers: &[u32],

@@ -27,6 +27,8 @@ pub enum Case {
     StoredOutside,
 }
 
+// Rows that differ in a number are constants each: a constant's value may call no function, and a macro would hide the rows.
+
 // r0 is 0.
 const CLEAR: Row = Row::Set { to: 0, value: 0 };
 
@@ -37,8 +39,7 @@ const INDEX: Row = Row::Load {
     index: 0,
 };
 
-// Row 4 is gone to where the index is below 16. Rows that differ in a number are constants each: a constant's value may call no
-// function, and a macro would hide the rows.
+// Row 4 is gone to where the index is below 16.
 const BELOW_16: Row = Row::Branch {
     test: Test::Less,
     left: 1,

@@ -38,7 +38,7 @@ fn all_joined<L: Label>(one: &Registers<L>, other: &Registers<L>) -> Registers<L
     let a: &[Known<L>] = one;
     let b: &[Known<L>] = other;
     let mut joined = copied(one);
-    // By index: after a loop over `iter_mut` nothing is known of what it wrote, and no proof was found with `array::from_fn`.
+    // By index: of what a loop over a `zip` of `iter_mut` wrote nothing is known, and no proof was found with `array::from_fn`.
     for i in 0..REGISTERS {
         joined[i] = known_joined(a[i], b[i]);
     }
@@ -49,7 +49,7 @@ fn all_joined<L: Label>(one: &Registers<L>, other: &Registers<L>) -> Registers<L
 pub fn copy_of<L: Label>(fact: &Fact<L>) -> Option<Registers<L>>
     ensures { result ≡ fact.now }
 {
-    fact.as_ref().map(copied)
+    fact.as_ref().copied()
 }
 
 // What a fact has to rise to, to be at or above what is handed to it; none where it is already.

@@ -61,8 +61,8 @@ pub(crate) fn of_operand<L: Label>(known: &Registers<L>, operand: Operand) -> Kn
 pub(crate) fn width_after(operation: Operation, left: u8, right: Operand, right_width: u8) -> u8
     ensures { result ≡ min 32 (width_after operation left right right_width) }
 {
-    let a = left as u64;
-    let b = right_width as u64;
+    let a = u64::from(left);
+    let b = u64::from(right_width);
     let width = match operation {
         Operation::Add => a.max(b) + 1,
         Operation::Sub => 32,
@@ -70,11 +70,11 @@ pub(crate) fn width_after(operation: Operation, left: u8, right: Operand, right_
         Operation::And => a.min(b),
         Operation::Or | Operation::Xor => a.max(b),
         Operation::ShiftLeft => match right {
-            Operand::Constant(k) => a + k as u64,
+            Operand::Constant(k) => a + u64::from(k),
             Operand::Register(_) => 32,
         },
         Operation::ShiftRight => match right {
-            Operand::Constant(k) => a.saturating_sub(k as u64),
+            Operand::Constant(k) => a.saturating_sub(u64::from(k)),
             Operand::Register(_) => a,
         },
         Operation::Less | Operation::Equal => 1,

@@ -82,7 +82,7 @@ pub fn known_after<L: Label>(row: Row, known: &Registers<L>, labels: &[L]) -> Re
     }
 }
 
-// What a passed test tells on the target's side.
+// What a passed test tells on the target's side. Test, left and right are a row's fields and go as it holds them.
 pub fn known_at_target<L: Label>(
     test: Test,
     left: u8,

@@ -43,6 +43,9 @@ module _ {L : Type 0} (K : Kind L) (laws : Lawful K) where
     lighter = omega arith;
   }
 
+  pub received_nothing : (hs : List (Handed L)) (table : List (Fact L)) (stale : List Bool) → hs ≡ [] → Received K hs table table stale stale
+  received_nothing hs table stale none = subst (λ hs. Received K hs table table stale stale) (sym none) (received_none table stale)
+
   -- a fact that is admitted changes nothing
   pub received_kept : (h : Handed L) (table : List (Fact L)) (stale : List Bool) → below_fact K (Some h.known) (fact_at table h.row h.mode) ≡ true
       → Received K (h ∷ []) table table stale stale

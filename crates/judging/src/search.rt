@@ -47,7 +47,8 @@ fn first_leak<L: Label>(
     None
 }
 
-// The verdict under the least closed table. That it has two facts a row stands in each contract, for it is lent apart from the rows.
+// The verdict under the least closed table. That it has two facts a row stands in each contract: of a value of both it would not be
+// known that facts of any label fit in memory.
 pub(crate) fn verdict_under<L: Label>(routine: &Taken<L>, reader: L, table: &[Fact<L>]) -> Verdict
     requires { length table.now ≡ 2 * length (rows_of routine.now) }
     ensures { result ≡ verdict_from (first_from L.Label.kind (labels_of routine.now) reader (rows_of routine.now) table.now Sought.AnyLeak 0 (length table.now)) (first_from L.Label.kind (labels_of routine.now) reader (rows_of routine.now) table.now Sought.SpillOrGuessed 0 (length table.now)) }
@@ -55,8 +56,5 @@ pub(crate) fn verdict_under<L: Label>(routine: &Taken<L>, reader: L, table: &[Fa
     let Some(leak) = first_leak(routine, reader, table, Sought::AnyLeak) else {
         return Verdict::C;
     };
-    match first_leak(routine, reader, table, Sought::SpillOrGuessed) {
-        None => Verdict::G(leak),
-        Some(grave) => Verdict::L(grave),
-    }
+    first_leak(routine, reader, table, Sought::SpillOrGuessed).map_or(Verdict::G(leak), Verdict::L)
 }

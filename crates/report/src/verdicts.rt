@@ -8,7 +8,8 @@ use facts::types::{Mode, Reason};
 use itoa::Buffer;
 use judging::{Leak, Verdict};
 
-// Words for the parts of a line. `impl Display` would serve `write!` alone, whose success nothing promises.
+// Words for the parts of a line. `Display` would serve `write!`, whose success nothing promises, or a `String`, which asks the heap; a
+// trait for both would be longer.
 fn mode_word(mode: Mode) -> &'static str
     ensures { result.now ≡ mode_word mode }
 {

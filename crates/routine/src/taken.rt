@@ -5,7 +5,8 @@ ghost use Rattle.routine.specs.Limits.{within};
 use crate::rows::Row;
 use crate::source::Source;
 
-// Borrows its source and adds the number of words. It is no `Copy`: a routine is taken once and handed on.
+// Borrows its source and adds the number of words, which is handed in and has to be that of the labels. It is no `Copy`: a routine is
+// taken once and handed on.
 #[derive(Drop)]
 pub struct Taken<'a, L> {
     source: &'a Source<'a, L>,

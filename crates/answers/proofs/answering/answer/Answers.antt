@@ -1,9 +1,16 @@
-use Rattle.std.proofs.Common.{ℕ, arith}
+use Rattle.std.proofs.Common.{ℕ, ◌≤◌, length, replicate, arith}
 use lib.ListN.{length-replicate}
 use Rattle.routine.specs.declared.rows.Row.TheVariants.{Halt}
 use Rattle.report.specs.Parts.{line_bytes}
 use Rattle.answers.proofs.Accepted.{card_rows, card_labels, card_fits, answers_judged, answers_declined}
 use Rattle.answers.proofs.answering.answer.Goals as goal
+
+-- the tables are as long as a card may need
+row_room : 256 ≤ length (replicate 256 Halt)
+row_room = omega (arith, length-replicate 256 Halt)
+
+label_room : 4096 ≤ length {A = ℕ} (replicate 4096 0)
+label_room = omega (arith, length-replicate {A = ℕ} 4096 0)
 
 pub answer_accepted-requires : goal.answer_accepted-requires
 answer_accepted-requires c =
@@ -12,10 +19,10 @@ answer_accepted-requires c =
 
 pub returns-in-Ok : goal.returns-in-Ok
 returns-in-Ok c =
-    answers_judged c.read.ensures.reads (omega (arith, length-replicate 256 Halt)) (omega (arith, length-replicate {A = ℕ} 4096 0))
+    answers_judged c.read.ensures.reads row_room label_room
     c.in-Ok.accepted c.in-Ok.is (line_bytes c.answer_accepted.result) c.answer_accepted.ensures
 
 pub returns-in-Err : goal.returns-in-Err
 returns-in-Err c =
-    answers_declined c.read.ensures.reads (omega (arith, length-replicate 256 Halt)) (omega (arith, length-replicate {A = ℕ} 4096 0))
+    answers_declined c.read.ensures.reads row_room label_room
     c.in-Err.refusal c.in-Err.is (line_bytes c.declined_line.result) c.declined_line.ensures

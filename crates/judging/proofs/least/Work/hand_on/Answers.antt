@@ -1,8 +1,8 @@
-use Rattle.std.proofs.Common.{◌+◌, [], ◌∷◌, sym, subst, ap₂}
+use Rattle.std.proofs.Common.{◌+◌, [], ◌∷◌, sym, subst, ap, ap₂}
 use Rattle.facts.specs.declared.types.Mode.TheVariants.{Settled, Guessed}
 use Rattle.facts.specs.Rules.{hand, hands, at_target, at_next}
 use Rattle.judging.specs.Steps.{Received}
-use Rattle.judging.proofs.Receiving.{received_none, received_both}
+use Rattle.judging.proofs.Receiving.{received_nothing, received_both}
 use Rattle.judging.proofs.least.Work.hand_on.Goals as goal
 
 pub returns-in-Settled-clause-received : goal.returns-in-Settled-clause-received
@@ -32,17 +32,10 @@ returns-in-Settled-clause-received g c =
 
 pub returns-in-Guessed-clause-received : goal.returns-in-Guessed-clause-received
 returns-in-Guessed-clause-received g c =
-    let K = g.L.Label.kind in
-    let table = c.args.self.now.table.now in
-    let stale = c.args.self.now.stale in
-    subst (λ hs. Received K hs table table stale stale)
-    (ap₂ (λ x m. hands K c.args.labels.now x c.args.here m c.args.known.now) (sym c.in-Fence.is) (sym c.in-Guessed.is))
-    (received_none K g.L.Label.lawful table stale)
+    let none = ap₂ (λ x m. hands g.L.Label.kind c.args.labels.now x c.args.here m c.args.known.now) c.in-Fence.is c.in-Guessed.is in
+    received_nothing g.L.Label.kind g.L.Label.lawful _ c.args.self.now.table.now c.args.self.now.stale none
 
 pub returns-in-Halt-clause-received : goal.returns-in-Halt-clause-received
 returns-in-Halt-clause-received g c =
-    let K = g.L.Label.kind in
-    let table = c.args.self.now.table.now in
-    let stale = c.args.self.now.stale in
-    subst (λ x. Received K (hands K c.args.labels.now x c.args.here c.args.mode c.args.known.now) table table stale stale) (sym c.in-Halt.is)
-    (received_none K g.L.Label.lawful table stale)
+    let none = ap (λ x. hands g.L.Label.kind c.args.labels.now x c.args.here c.args.mode c.args.known.now) c.in-Halt.is in
+    received_nothing g.L.Label.kind g.L.Label.lawful _ c.args.self.now.table.now c.args.self.now.stale none
