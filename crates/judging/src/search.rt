@@ -11,7 +11,8 @@ use labels::Label;
 use routine::Taken;
 use routine::rows::Row;
 
-// The first reason of those sought for which a row with a fact leaks; an unreached row leaks nothing.
+// The first reason of those sought for which a row with a fact leaks; an unreached row leaks nothing. Labels, reader and what is sought
+// come from three hands, and go apart.
 fn leak_at<L: Label>(
     row: Row,
     mode: Mode,
