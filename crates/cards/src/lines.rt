@@ -70,15 +70,14 @@ impl<'a> Reader<'a> {
             return None;
         }
         let rest = &self.card[self.at..];
+        self.line += 1;
         match cut(rest, b'\n') {
             Some((line, _)) => {
                 self.at += line.len() + 1;
-                self.line += 1;
                 Some(line)
             }
             None => {
                 self.at += rest.len();
-                self.line += 1;
                 Some(rest)
             }
         }
