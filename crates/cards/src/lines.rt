@@ -34,16 +34,16 @@ pub(crate) fn four_fields(line: usize, text: &[u8]) -> Result<Fields<'_>, CardRe
     let (first, rest) = cut(text, b',').ok_or(refusal)?;
     let (second, rest) = cut(rest, b',').ok_or(refusal)?;
     let (third, fourth) = cut(rest, b',').ok_or(refusal)?;
-    match cut(fourth, b',') {
-        None => Ok(Fields {
-            line,
-            first,
-            second,
-            third,
-            fourth,
-        }),
-        Some(_) => Err(refusal),
+    if cut(fourth, b',').is_some() {
+        return Err(refusal);
     }
+    Ok(Fields {
+        line,
+        first,
+        second,
+        third,
+        fourth,
+    })
 }
 
 impl<'a> Reader<'a> {
