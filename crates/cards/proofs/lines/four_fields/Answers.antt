@@ -23,16 +23,17 @@ abbrev Cut : List ℕ → Option Parts → Type 0
 Cut text parts = MatchOption parts (Lacks 44 text) (λ parts. (text ≡ parts.0.now ++ 44 ∷ parts.1.now) × Lacks 44 parts.0.now)
 
 -- a part that is there is a field
-part : (n : ℕ) (text : List ℕ) (o : Option Parts) (told : Result Parts CardRefusal) (first rest : Bor (List ℕ)) → Cut text o
+part : {told : Result Parts CardRefusal} {first rest : Bor (List ℕ)} (n : ℕ) (text : List ℕ) (o : Option Parts) → Cut text o
     → told ≡ ok_or o (refusal.FieldCount n) → told ≡ Ok (first, rest) → fields_of text ≡ first.now ∷ fields_of rest.now
-part n text o told first rest cut value was =
-    let (is, lacks) = MatchOption-at_some _ _ (first, rest) (there _ o (first, rest) (sym value ∙ was)) cut in field_first text _ _ is lacks
+part {told} {first} {rest} n text o cut value was =
+    let (is, lacks) = MatchOption-at_some _ _ (first, rest) (there (refusal.FieldCount n) o (first, rest) (sym value ∙ was)) cut in
+    field_first text _ _ is lacks
 
 -- what stands before a missing part is not four fields: the refusal is told
-missing : (n : ℕ) (line : List ℕ) (found : List (List ℕ)) (rest : List ℕ) (o : Option Parts) (told : Result Parts CardRefusal) (e : CardRefusal)
-    (r : Result Fields CardRefusal) → fields_of line ≡ found ++ fields_of rest → four_of (found ++ rest ∷ []) ≡ None → Cut rest o
+missing : {told : Result Parts CardRefusal} {e : CardRefusal} (n : ℕ) (line rest : List ℕ) (o : Option Parts) (r : Result Fields CardRefusal)
+    (found : List (List ℕ)) → fields_of line ≡ found ++ fields_of rest → four_of (found ++ rest ∷ []) ≡ None → Cut rest o
     → told ≡ ok_or o (refusal.FieldCount n) → told ≡ Err e → IsErrAnd r (λ d. d ≡ e) → map_ok r four_texts ≡ counted_fields n line
-missing n line found rest o told e r before few cut value was gives =
+missing {told} {e} n line rest o r found before few cut value was gives =
     let (none, is) = not_there (refusal.FieldCount n) e o (sym value ∙ was) in
     let (d, r_is, d_is) = err_from_is_err_and r gives in
     let alone = split_last 44 rest (MatchOption-at_none _ _ none cut) in
@@ -50,38 +51,34 @@ excess a b c text (Some parts) cut some = ap (λ fields. four_of (a ∷ b ∷ c 
 
 -- the parts found so far
 one_is : (c : In_ok-first) → fields_of c.args.text.now ≡ c.in_ok-first.first.now ∷ fields_of c.in_ok-first.rest.now
-one_is c = part c.args.line _ c.cut.result c.ok_or.result _ _ c.cut.ensures c.ok_or.ensures.value c.in_ok-first.was
+one_is c = part _ _ _ c.cut.ensures c.ok_or.ensures.value c.in_ok-first.was
 
 two_are : (c : In_ok-second) → fields_of c.args.text.now
     ≡ c.in_ok-first.first.now ∷ c.in_ok-second.second.now ∷ fields_of c.in_ok-second.rest.now
 two_are c =
     one_is (goal.at.In_ok-second c).In_ok-first
-    ∙ ap (λ fields. c.in_ok-first.first.now ∷ fields)
-    (part c.args.line _ c.cut-2.result c.ok_or-2.result _ _ c.cut-2.ensures c.ok_or-2.ensures.value c.in_ok-second.was)
+    ∙ ap (λ fields. c.in_ok-first.first.now ∷ fields) (part _ _ _ c.cut-2.ensures c.ok_or-2.ensures.value c.in_ok-second.was)
 
 three_are : (c : In_ok-third) → fields_of c.args.text.now
     ≡ c.in_ok-first.first.now ∷ c.in_ok-second.second.now ∷ c.in_ok-third.third.now ∷ fields_of c.in_ok-third.fourth.now
 three_are c =
     two_are (goal.at.In_ok-third c).In_ok-second
     ∙ ap (λ fields. c.in_ok-first.first.now ∷ c.in_ok-second.second.now ∷ fields)
-    (part c.args.line _ c.cut-3.result c.ok_or-3.result _ _ c.cut-3.ensures c.ok_or-3.ensures.value c.in_ok-third.was)
+    (part _ _ _ c.cut-3.ensures c.ok_or-3.ensures.value c.in_ok-third.was)
 
 pub returns-in_err-first-clause-texts : goal.returns-in_err-first-clause-texts
 returns-in_err-first-clause-texts c =
-    missing c.args.line _ [] _ c.cut.result c.ok_or.result _ c.from_residual.result refl refl c.cut.ensures c.ok_or.ensures.value
-    c.in_err-first.was c.from_residual.ensures.1
+    missing _ _ _ _ _ [] refl refl c.cut.ensures c.ok_or.ensures.value c.in_err-first.was c.from_residual.ensures.1
 
 pub returns-in_err-second-clause-texts : goal.returns-in_err-second-clause-texts
 returns-in_err-second-clause-texts c =
-    missing c.args.line _ (c.in_ok-first.first.now ∷ []) _ c.cut-2.result c.ok_or-2.result _ c.from_residual-in_err-second.result
-    (one_is (goal.at.returns-in_err-second-clause-texts c).In_ok-first) refl c.cut-2.ensures c.ok_or-2.ensures.value
-    c.in_err-second.was c.from_residual-in_err-second.ensures.1
+    missing _ _ _ _ _ (c.in_ok-first.first.now ∷ []) (one_is (goal.at.returns-in_err-second-clause-texts c).In_ok-first) refl
+    c.cut-2.ensures c.ok_or-2.ensures.value c.in_err-second.was c.from_residual-in_err-second.ensures.1
 
 pub returns-in_err-third-clause-texts : goal.returns-in_err-third-clause-texts
 returns-in_err-third-clause-texts c =
-    missing c.args.line _ (c.in_ok-first.first.now ∷ c.in_ok-second.second.now ∷ []) _ c.cut-3.result c.ok_or-3.result _
-    c.from_residual-in_err-third.result (two_are (goal.at.returns-in_err-third-clause-texts c).In_ok-second) refl c.cut-3.ensures
-    c.ok_or-3.ensures.value c.in_err-third.was c.from_residual-in_err-third.ensures.1
+    missing _ _ _ _ _ (c.in_ok-first.first.now ∷ c.in_ok-second.second.now ∷ []) (two_are (goal.at.returns-in_err-third-clause-texts c).In_ok-second) refl
+    c.cut-3.ensures c.ok_or-3.ensures.value c.in_err-third.was c.from_residual-in_err-third.ensures.1
 
 pub returns-then-is_some-clause-texts : goal.returns-then-is_some-clause-texts
 returns-then-is_some-clause-texts c =
