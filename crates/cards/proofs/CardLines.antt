@@ -1,5 +1,5 @@
 -- Lemmas on a card's lines: reading one after the other is the inverse of writing them.
-use Rattle.std.proofs.Common.{◌≡◌, ℕ, suc, ◌+◌, ◌<◌, ◌≤◌, true, eqb, leb, List, [], ◌∷◌, ◌++◌, length, Some, None, Ok, Err, codes, Option, Result, sym, refl, ap, ◌∙◌, subst, ⊎_elim, arith}
+use Rattle.std.proofs.Common.{◌≡◌, ℕ, suc, ◌+◌, ◌<◌, ◌≤◌, true, eqb, leb, List, [], ◌∷◌, ◌++◌, length, Some, Ok, codes, sym, refl, ap, ◌∙◌, subst, ⊎_elim, arith}
 use Rattle.std.specs.List.{flat_map, AllByRecursion}
 use Rattle.std.specs.Option.{ok_or}
 use Rattle.std.specs.Str.{bytes_eq}
@@ -8,7 +8,6 @@ use Rattle.std.proofs.lemmas.Slice.Eq.{bytes_eq-Decides}
 use Rattle.std.proofs.lemmas.List.Sums.{fold_push}
 use Rattle.std.proofs.lemmas.List.{append_assoc, append-nil, length_push, flat_map_more, nil_from_length}
 use Rattle.std.proofs.lemmas.Bool.{and_parts, and_from, eqb-true, leb-false, cond-true, cond-false, cases_Bool}
-use Rattle.refusals.specs.declared.cards.CardRefusal.{CardRefusal}
 use Rattle.refusals.specs.declared.cards.CardRefusal.TheVariants as refusal
 use Rattle.routine.specs.declared.rows.Row.{Row}
 use Rattle.cards.specs.declared.heads.Head.{Head}
@@ -22,7 +21,7 @@ use Rattle.cards.specs.Heads.{and_then, head_in, lab_in}
 use Rattle.cards.specs.Cards.{Card, line_text, head_text, lab_text, row_text, written, lab_fits, labs_fit}
 use Rattle.cards.specs.Reading.{covered_from, covered_by, head_only, with_lab, with_row, counted_fields, head_line, lab_line, row_line, line_by_word, line_in, lines_in}
 use Rattle.cards.proofs.Stepping.{lab_taken, row_taken}
-use Rattle.cards.proofs.Outcomes.{same_ok, passed, passed_not, then_steps, mapped, map_step, found, there}
+use Rattle.cards.proofs.Outcomes.{same_ok, passed, passed_not, then_steps, mapped, map_step, there, there_then}
 use Rattle.cards.proofs.RowLines.{ClearFour, Fitting, word_in, word_sound, name_read, row_name, row_sound, row_complete}
 use Rattle.cards.proofs.LineTexts.{ended_by, bare, fields_rejoined, fields_found, line_found}
 use Rattle.cards.proofs.HeadLines.{HeadFits, head_sound, head_complete, lab_sound, lab_complete}
@@ -112,8 +111,8 @@ module _ (card : Card) (fits : Fits card) (n : ℕ) (line : List ℕ) (four : Fo
       ⊎_elim (λ lab. lab_line_sound ((bytes_eq-Decides four.first (codes "lab")).0 lab) (sym (cond-true _ _ _ lab) ∙ is))
       (λ no-lab.
       let (w, w-is, then-a) =
-      found (refusal.UnknownWord n) (λ w. row_line card n w four) (word_of (part_of four.first)) next (sym (cond-false _ _ _ no-lab) ∙ is) in
-      row_line_sound w (word_sound four.first w w-is) then-a)
+      then_steps (ok_or (word_of (part_of four.first)) (refusal.UnknownWord n)) (λ w. row_line card n w four) next (sym (cond-false _ _ _ no-lab) ∙ is) in
+      row_line_sound w (word_sound four.first w (there (refusal.UnknownWord n) (word_of (part_of four.first)) w w-is)) then-a)
       (cases_Bool (bytes_eq four.first (codes "lab")))
 
 -- the fields of a line where they were counted
@@ -171,10 +170,10 @@ row_read : (card : Card) (n : ℕ) (row : Row) → length card.rows < 256 → ro
     → line_by_word card n (row_text row) ≡ Ok (with_row card row)
 row_read card n row room read =
     let (name-is, no-lab, _) = name_read (word_in row) in
-    let worded : Option Word → Result Card CardRefusal =
-    λ o. elim o [ None ↦ Err (refusal.UnknownWord n) | Some word ↦ row_line card n word (row_text row) ] in
     cond-false _ _ _ (ap (λ name. bytes_eq name (codes "lab")) (row_name row) ∙ no-lab)
-    ∙ ap worded (ap (λ name. word_of (part_of name)) (row_name row) ∙ name-is) ∙ row_taken card n (word_in row) (row_text row) row room read
+    ∙ there_then (refusal.UnknownWord n) _ (word_in row) (λ word. row_line card n word (row_text row))
+    (ap (λ name. word_of (part_of name)) (row_name row) ∙ name-is)
+    ∙ row_taken card n (word_in row) (row_text row) row room read
 
 -- all `lab` lines, after those before them
 labs_read : (head : Head) → HeadFits head → (before labs : List Lab) (n : ℕ) (rest : List ℕ) → labs_fit head (covered_by before) labs ≡ true

@@ -75,17 +75,15 @@ row_names : (card : Card) (n : ℕ) (read : Result Row Fault)
 row_names card n (Ok row) = ok_names n (with_row card row)
 row_names card n (Err fault) = err_names n (refusal.RowField n fault.field fault.cause) refl
 
-word_names : (card : Card) (n : ℕ) (four : Four) (found : Option Word)
-    → Names n (elim found [ None ↦ Err (refusal.UnknownWord n) | Some word ↦ row_line card n word four ])
-word_names card n four None = err_names n (refusal.UnknownWord n) refl
-word_names card n four (Some word) =
+row_line_names : (card : Card) (n : ℕ) (four : Four) (word : Word) → Names n (row_line card n word four)
+row_line_names card n four word =
     cond_both (leb 256 (length card.rows)) _ _ (Names n) (λ _. err_names n (refusal.ExtraRow n) refl) (λ _. row_names card n (row_in card.head.words word four))
 
 by_word_names : (card : Card) (n : ℕ) (four : Four) → Names n (line_by_word card n four)
 by_word_names card n four =
     cond_both (bytes_eq four.first (codes "lab")) _ _ (Names n)
     (λ _. cond_both (eqb (length card.rows) 0) _ _ (Names n) (λ _. map_names n _ (with_lab card) (lab_fields card.head (covered_by card.labs) n four)) (λ _. err_names n (refusal.Lab n 1) refl))
-    (λ _. word_names card n four (word_of (part_of four.first)))
+    (λ _. then_names n _ _ (or_names n (word_of (part_of four.first)) (refusal.UnknownWord n) refl) (row_line_names card n four))
 
 line_names : (card : Card) (n : ℕ) (line : List ℕ) → Names n (line_in card n line)
 unfolding line_in

@@ -56,13 +56,7 @@ pub mapped : {A B E F : Type 0} (f : A → B) (g : E → F) (r : Result A E) (y 
 mapped f g (Ok x) y is = (x, refl, same_ok _ _ is)
 mapped f g (Err e) y is = never_ok _ _ _ is
 
--- a value that had to be there
-pub found : {A B E : Type 0} (e : E) (next : A → Result B E) (o : Option A) (y : B)
-    → ◌≡◌ {A = Result B E} (elim o [ None ↦ Err e | Some x ↦ next x ]) (Ok y) → (x : A) × (o ≡ Some x) × (next x ≡ Ok y)
-found e next None y is = never_ok _ _ _ is
-found e next (Some x) y is = (x, refl, is)
-
--- and one that had not
+-- a value that had not to be there
 pub not_found : {A B E : Type 0} (g : A → E) (r : Result B E) (o : Option A) (y : B)
     → ◌≡◌ {A = Result B E} (elim o [ None ↦ r | Some x ↦ Err (g x) ]) (Ok y) → (o ≡ None) × (r ≡ Ok y)
 not_found g r None y is = (refl, is)

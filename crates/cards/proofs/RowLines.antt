@@ -82,9 +82,9 @@ ClearFour four =
     (all_clear four.first ≡ true) × (all_clear four.second ≡ true) × (all_clear four.third ≡ true) × (all_clear four.fourth ≡ true)
 
 pub same_four : (four : Four) (a b c d : List ℕ) → four.first ≡ a → four.second ≡ b → four.third ≡ c → four.fourth ≡ d → four ≡ texts a b c d
-same_four four a b c d is-a is_b is_c is-d =
-    ap (λ text. texts text four.second four.third four.fourth) is-a ∙ ap (λ text. texts a text four.third four.fourth) is_b
-    ∙ ap (λ text. texts a b text four.fourth) is_c ∙ ap (texts a b c) is-d
+same_four four a b c d is_first is_second is_third is_fourth =
+    ap (λ text. texts text four.second four.third four.fourth) is_first ∙ ap (λ text. texts a text four.third four.fourth) is_second
+    ∙ ap (λ text. texts a b text four.fourth) is_third ∙ ap (texts a b c) is_fourth
 
 -- a row whose fields can be read, with that many words of memory
 pub record Fitting (words : ℕ) (row : Row) : Type 0 where
@@ -92,30 +92,30 @@ pub record Fitting (words : ℕ) (row : Row) : Type 0 where
   pub wide : is32 row ≡ true
 
 -- three fields by how each is read and written
-module _ {A B C : Type 0} {read_a : Part → Result A Cause} {readB : Part → Result B Cause} {readC : Part → Result C Cause}
-    {write_a : A → List ℕ} {writeB : B → List ℕ} {writeC : C → List ℕ} {FitsA : A → Type 0} {FitsB : B → Type 0} {FitsC : C → Type 0}
-    (second : Field read_a write_a FitsA) (third : Field readB writeB FitsB) (fourth : Field readC writeC FitsC) (w : Word)
+module _ {A B C : Type 0} {read_second : Part → Result A Cause} {read_third : Part → Result B Cause} {read_fourth : Part → Result C Cause}
+    {write_second : A → List ℕ} {write_third : B → List ℕ} {write_fourth : C → List ℕ} {FitsSecond : A → Type 0} {FitsThird : B → Type 0} {FitsFourth : C → Type 0}
+    (second : Field read_second write_second FitsSecond) (third : Field read_third write_third FitsThird) (fourth : Field read_fourth write_fourth FitsFourth) (w : Word)
     (make : A × B × C → Row) where
   fields_sound : (words : ℕ) (four : Four) (r : Row) → four.first ≡ name_of w
-      → ((a : A) (b : B) (c : C) → FitsA a → FitsB b → FitsC c
-      → (texts (name_of w) (write_a a) (writeB b) (writeC c) ≡ row_text (make (a, b, c))) × Fitting words (make (a, b, c)))
-      → map_ok (three (read_a (part_of four.second)) (readB (part_of four.third)) (readC (part_of four.fourth))) make ≡ Ok r
+      → ((a : A) (b : B) (c : C) → FitsSecond a → FitsThird b → FitsFourth c
+      → (texts (name_of w) (write_second a) (write_third b) (write_fourth c) ≡ row_text (make (a, b, c))) × Fitting words (make (a, b, c)))
+      → map_ok (three (read_second (part_of four.second)) (read_third (part_of four.third)) (read_fourth (part_of four.fourth))) make ≡ Ok r
       → (four ≡ row_text r) × Fitting words r
   fields_sound words four r name fits is =
       let ((a, b, c), read, same) = map_step _ make r is in
-      let (is-a, is_b, is_c) = three_steps _ _ _ (a, b, c) read in
-      let (text-a, fits-a) = field_sound second four.second a is-a in
-      let (text-b, fits-b) = field_sound third four.third b is_b in
-      let (text-c, fits-c) = field_sound fourth four.fourth c is_c in
-      let (row-text, fitting) = fits a b c fits-a fits-b fits-c in
-      subst (λ r. (four ≡ row_text r) × Fitting words r) same (same_four four _ _ _ _ name text-a text-b text-c ∙ row-text, fitting)
+      let (is_second, is_third, is_fourth) = three_steps _ _ _ (a, b, c) read in
+      let (text_second, fits_second) = field_sound second four.second a is_second in
+      let (text_third, fits_third) = field_sound third four.third b is_third in
+      let (text_fourth, fits_fourth) = field_sound fourth four.fourth c is_fourth in
+      let (text_is, fitting) = fits a b c fits_second fits_third fits_fourth in
+      subst (λ r. (four ≡ row_text r) × Fitting words r) same (same_four four _ _ _ _ name text_second text_third text_fourth ∙ text_is, fitting)
 
-  fields_complete : (a : A) (b : B) (c : C) → FitsA a → FitsB b → FitsC c
-      → (map_ok (three (read_a (part_of (write_a a))) (readB (part_of (writeB b))) (readC (part_of (writeC c)))) make ≡ Ok (make (a, b, c)))
-      × ClearFour (texts (name_of w) (write_a a) (writeB b) (writeC c))
-  fields_complete a b c fits-a fits-b fits-c = (
-    simp (second.complete a fits-a, third.complete b fits-b, fourth.complete c fits-c),
-    ((name_read w).2, second.clear a fits-a, third.clear b fits-b, fourth.clear c fits-c),
+  fields_complete : (a : A) (b : B) (c : C) → FitsSecond a → FitsThird b → FitsFourth c
+      → (map_ok (three (read_second (part_of (write_second a))) (read_third (part_of (write_third b))) (read_fourth (part_of (write_fourth c)))) make ≡ Ok (make (a, b, c)))
+      × ClearFour (texts (name_of w) (write_second a) (write_third b) (write_fourth c))
+  fields_complete a b c fits_second fits_third fits_fourth = (
+    simp (second.complete a fits_second, third.complete b fits_third, fourth.complete c fits_fourth),
+    ((name_read w).2, second.clear a fits_second, third.clear b fits_third, fourth.clear c fits_fourth),
   )
 
 -- the word of a row
@@ -182,9 +182,9 @@ module _ (words : ℕ) (some : 1 ≤ words) (few : words ≤ 4096) where
 
   access_within : (r base index : ℕ) → (is_register r && ltb base words && is_register index) ≡ true → (r ≤ 15) × (base ≤ words - 1) × (index ≤ 15)
   access_within r base index fits =
-      let (front, index-fits) = and_parts (is_register r && ltb base words) (is_register index) fits in
-      let (r-fits, base-fits) = and_parts (is_register r) (ltb base words) front in
-      (leb-true r 15 r-fits, omega (arith, ltb-true base words base-fits), leb-true index 15 index-fits)
+      let (front, index_fits) = and_parts (is_register r && ltb base words) (is_register index) fits in
+      let (register_fits, base_fits) = and_parts (is_register r) (ltb base words) front in
+      (leb-true r 15 register_fits, omega (arith, ltb-true base words base_fits), leb-true index 15 index_fits)
 
   pub row_sound : (w : Word) (four : Four) (r : Row) → four.first ≡ name_of w → row_in words w four ≡ Ok r → (four ≡ row_text r) × Fitting words r
   row_sound Set four r name is =
@@ -242,9 +242,9 @@ module _ (words : ℕ) (some : 1 ≤ words) (few : words ≤ 4096) where
       fields_complete register_field base_field register_field Store (λ read. row.Store read.0 read.1 read.2) from base index a b c
   row_complete (row.Branch t left right target) fitting =
       let (a, b) = and_parts (is_register left) (operand_fits right) fitting.fields in
-      let (b-wide, c) = and_parts (operand_is32 right) (leb target max32) fitting.wide in
+      let (right_wide, c) = and_parts (operand_is32 right) (leb target max32) fitting.wide in
       fields_complete register_field branch_field wide_field (Branch t) (λ read. row.Branch t read.0 read.1 read.2) left right target
-      (leb-true left 15 a) (operand_within right b b-wide) (leb-true target max32 c)
+      (leb-true left 15 a) (operand_within right b right_wide) (leb-true target max32 c)
   row_complete (row.Jump target) fitting =
       fields_complete wide_field unused_field unused_field Jump (λ read. row.Jump read.0) target tt tt (leb-true target max32 fitting.wide) tt tt
   row_complete row.Fence fitting = fields_complete unused_field unused_field unused_field Fence (λ read. row.Fence) tt tt tt tt tt tt

@@ -1,5 +1,6 @@
 -- What a line adds to a card, way by way.
-use Rattle.std.proofs.Common.{◌≡◌, ℕ, suc, ◌+◌, ◌<◌, true, false, leb, List, ◌∷◌, length, Some, None, Ok, Err, codes, Option, Result, sym, refl, ap, ◌∙◌, subst, add-one}
+use Rattle.std.proofs.Common.{◌≡◌, ℕ, suc, ◌+◌, ◌<◌, true, false, leb, List, ◌∷◌, length, Some, None, Ok, Err, codes, Result, sym, refl, ap, ◌∙◌, subst, add-one}
+use Rattle.std.specs.Option.{ok_or}
 use Rattle.std.specs.Str.{bytes_eq}
 use Rattle.std.proofs.lemmas.Bool.{cond-true, cond-false, eq-eqb, lt-leb}
 use Rattle.refusals.specs.declared.cards.CardRefusal.{CardRefusal}
@@ -16,11 +17,7 @@ use Rattle.cards.specs.Cards.{Card}
 use Rattle.cards.specs.Reading.{covered_by, with_lab, with_row, counted_fields, lab_line, row_line, line_by_word, line_in, lines_in}
 use Rattle.cards.specs.Rows.{map_ok, row_in}
 use Rattle.routine.specs.declared.rows.Row.{Row}
-use Rattle.cards.proofs.Outcomes.{never_ok}
-
--- a row by its word, if it has one
-abbrev on_word : Card → ℕ → Four → Option Word → Result Card CardRefusal
-on_word card n four found = elim found [ None ↦ Err (refusal.UnknownWord n) | Some word ↦ row_line card n word four ]
+use Rattle.cards.proofs.Outcomes.{never_ok, there_then}
 
 module _ (card : Card) (n : ℕ) (line : List ℕ) where
   pub line_short : (e : CardRefusal) → counted_fields n line ≡ Err e → line_in card n line ≡ Err e
@@ -32,16 +29,17 @@ module _ (card : Card) (n : ℕ) (line : List ℕ) where
     unfolding line_in
     line_lab lab = ap (λ counted. and_then counted (line_by_word card n)) some ∙ cond-true (bytes_eq four.first (codes "lab")) _ _ lab
 
-    line_other : bytes_eq four.first (codes "lab") ≡ false → line_in card n line ≡ on_word card n four (word_of (part_of four.first))
+    line_other : bytes_eq four.first (codes "lab") ≡ false
+        → line_in card n line ≡ and_then (ok_or (word_of (part_of four.first)) (refusal.UnknownWord n)) (λ word. row_line card n word four)
     unfolding line_in
     line_other other = ap (λ counted. and_then counted (line_by_word card n)) some ∙ cond-false (bytes_eq four.first (codes "lab")) _ _ other
 
     pub line_unknown : bytes_eq four.first (codes "lab") ≡ false → word_of (part_of four.first) ≡ None → line_in card n line ≡ Err (refusal.UnknownWord n)
-    line_unknown other none = line_other other ∙ ap (on_word card n four) none
+    line_unknown other none = line_other other ∙ ap (λ found. and_then (ok_or found (refusal.UnknownWord n)) (λ word. row_line card n word four)) none
 
     pub line_row : (word : Word) → bytes_eq four.first (codes "lab") ≡ false → word_of (part_of four.first) ≡ Some word
         → line_in card n line ≡ row_line card n word four
-    line_row word other is = line_other other ∙ ap (on_word card n four) is
+    line_row word other is = line_other other ∙ there_then (refusal.UnknownWord n) _ word (λ word. row_line card n word four) is
 
 -- a step is taken as the rules say it
 pub steps_by : (draft : Draft) (r : Result (Unit {0}) CardRefusal) {step rule : Result Card CardRefusal} → step ≡ rule → Steps rule draft r

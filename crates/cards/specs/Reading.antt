@@ -60,7 +60,7 @@ row_line card n word four =
 abbrev pub line_by_word : Card → ℕ → Four → Result Card CardRefusal
 line_by_word card n four =
     cond (bytes_eq four.first (codes "lab")) (lab_line card n four)
-    (elim (word_of (part_of four.first)) [ None ↦ Err (refusal.UnknownWord n) | Some word ↦ row_line card n word four ])
+    (and_then (ok_or (word_of (part_of four.first)) (refusal.UnknownWord n)) (λ word. row_line card n word four))
 
 -- what line n adds to the card
 unfoldable pub line_in : Card → ℕ → List ℕ → Result Card CardRefusal

@@ -1,4 +1,4 @@
-// What an accepted card tells besides its rows and labels.
+// What an accepted card tells besides its rows and labels. The counts stand beside no table: the tables are the caller's.
 use crate::heads::LabelKind;
 
 #[derive(Clone, Copy)]

@@ -34,16 +34,16 @@ pub(crate) fn four_fields(line: usize, text: &[u8]) -> Result<Fields<'_>, CardRe
     let (first, rest) = cut(text, b',').ok_or(refusal)?;
     let (second, rest) = cut(rest, b',').ok_or(refusal)?;
     let (third, fourth) = cut(rest, b',').ok_or(refusal)?;
-    match cut(fourth, b',') {
-        None => Ok(Fields {
-            line,
-            first,
-            second,
-            third,
-            fourth,
-        }),
-        Some(_) => Err(refusal),
+    if cut(fourth, b',').is_some() {
+        return Err(refusal);
     }
+    Ok(Fields {
+        line,
+        first,
+        second,
+        third,
+        fourth,
+    })
 }
 
 impl<'a> Reader<'a> {
@@ -70,15 +70,14 @@ impl<'a> Reader<'a> {
             return None;
         }
         let rest = &self.card[self.at..];
+        self.line += 1;
         match cut(rest, b'\n') {
             Some((line, _)) => {
                 self.at += line.len() + 1;
-                self.line += 1;
                 Some(line)
             }
             None => {
                 self.at += rest.len();
-                self.line += 1;
                 Some(rest)
             }
         }

@@ -16,10 +16,10 @@ pub(crate) fn number(text: &[u8], limit: u32) -> Result<u32, Cause>
     if let [b'0', _, ..] = text {
         return Err(Cause::LeadingZero);
     }
-    match u32::try_from(capped_value(text)) {
-        Ok(value) if value <= limit => Ok(value),
-        _ => Err(Cause::BeyondLimit),
-    }
+    u32::try_from(capped_value(text))
+        .ok()
+        .filter(|value| *value <= limit)
+        .ok_or(Cause::BeyondLimit)
 }
 
 // The number that the text writes, if it lies between the limits.

@@ -2,6 +2,7 @@
 ghost use Rattle.std.specs.Prelude.{◌≤◌, length};
 
 // A place in a card: what is left begins at `at`, and `line` lines were read before it.
+// A place and a line number that its methods move: this form is asked for.
 #[derive(Drop)]
 pub(crate) struct Reader<'a> {
     pub card: &'a [u8],
