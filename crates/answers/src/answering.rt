@@ -25,7 +25,8 @@ fn fill_labels<L: Numbered>(numbers: &[u32], labels: &mut [L])
 }
 
 // The line of the verdict on rows, with labels and a reader by the numbers that a kind writes for them. The tables of labels and of
-// facts are for working in. What is read goes as parameters: a struct for one call would be no plainer.
+// facts are for working in. What is read goes as parameters: a struct for one call would be no plainer, and there is
+// no `Taken` yet to keep `within`.
 fn answer_as<L: Numbered>(
     rows: &[Row],
     numbers: &[u32],

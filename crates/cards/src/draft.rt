@@ -14,7 +14,7 @@ pub(crate) struct Draft {
     // how many `lab` lines there were, and the word after the last that they cover
     pub labs: u32,
     pub covered: u32,
-    // kept a table of fixed size: only words within the head's number are given labels
+    // of fixed size: how many of them are used is the head's to say
     pub labels: [u32; MAX_WORDS],
     pub rows: ArrayVec<Row, MAX_ROWS>,
     ghost some: { 1 ≤ head.words },

@@ -117,7 +117,7 @@ impl Draft {
                 Refusal::RowCount => Err(CardRefusal::NoRow),
                 Refusal::Target { row } => Err(CardRefusal::Target { line: first + row }),
                 Refusal::Ending { row } => Err(CardRefusal::Ending { line: first + row }),
-                // Every field was read within its limit.
+                // Every field was read within its limit, and `check` does not tell the other two.
                 Refusal::WordCount
                 | Refusal::RowField { row: _ }
                 | Refusal::WorkTable

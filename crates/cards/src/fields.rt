@@ -75,6 +75,6 @@ pub(crate) fn unused(text: &[u8]) -> Result<(), Cause>
 fn register_number(digits: &[u8]) -> Result<u8, Cause>
     ensures { result ≡ number_in 15 digits.now }
 {
-    // Kept a cast: `try_from` would bring a second refusal, which never comes.
+    // A cast: `try_from` would bring a second refusal, which never comes.
     Ok(number(digits, u32::from(LAST_REGISTER))? as u8)
 }

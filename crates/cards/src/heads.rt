@@ -45,7 +45,7 @@ impl LabelKind {
         }
     }
 
-    // The kind of a name. Kept from being `TryFrom`, which would want an error that nothing reads.
+    // The kind of a name. No `TryFrom`: that would want an error that nothing reads.
     fn named(name: &[u8]) -> Option<LabelKind>
         ensures { result ≡ kind_named name.now }
     {

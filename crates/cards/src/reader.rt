@@ -1,8 +1,8 @@
 // The reader of a card's lines.
 ghost use Rattle.std.specs.Prelude.{◌≤◌, length};
 
-// A place in a card: what is left begins at `at`, and `line` lines were read before it.
-// A place and a line number that its methods move: this form is asked for.
+// A place in a card: what is left begins at `at`, and `line` lines were read before it. A place and not the rest of the text: by it the
+// line number, at most the place, is known to stay in range.
 #[derive(Drop)]
 pub(crate) struct Reader<'a> {
     pub card: &'a [u8],
