@@ -1,4 +1,4 @@
-use Rattle.std.proofs.Common.{◌≡◌, ℕ, suc, ◌+◌, ◌-◌, ◌*◌, ◌/◌, ◌<◌, List, length, get_or, None, Option, sym, ap, ◌∙◌, subst, ap₂, arith}
+use Rattle.std.proofs.Common.{◌≡◌, ℕ, suc, ◌+◌, ◌-◌, ◌*◌, ◌/◌, ◌<◌, List, length, get_or, Some, None, Option, sym, ap, ◌∙◌, subst, ap₂, arith}
 use Rattle.std.proofs.lemmas.List.{get_or_default, get_or_read}
 use Rattle.labels.specs.Kind.{Kind}
 use Rattle.routine.specs.declared.rows.Row.{Row}
@@ -34,6 +34,18 @@ loop-place-init g c =
 read : {L : Type 0} (K : Kind L) (reader : L) (table : List (Fact L)) (sought : Sought) (labels ls : List L) (rows rs : List Row) (found : Option Leak)
     → ls ≡ labels → rs ≡ rows → found ≡ first_from K ls reader rs table sought 0 (length table) → found ≡ first_from K labels reader rows table sought 0 (length table)
 read K reader table sought labels ls rows rs found e f is = is ∙ ap₂ (λ l r. first_from K l reader r table sought 0 (length table)) e f
+
+pub returns-in-Some : goal.returns-in-Some
+returns-in-Some g c =
+    let K = g.L.Label.kind in
+    let s = c.loop-place.place in
+    let labels = c.labels-labels.result.now in
+    let rows = c.rows-rows.result.now in
+    let table = c.args.table.now in
+    let long = subst (λ rs. length table ≡ 2 * length rs) (sym c.rows-rows.ensures) c.requires in
+    let found = step K labels c.args.reader rows table c.args.sought s c.index-table-place.result c.mode_of-mode.result (Some c.in-Some.reason) (omega (arith, c.loop-place-test.true)) long c.index-table-place.is c.mode_of-mode.ensures c.in-Some.ensures in
+    read K c.args.reader table c.args.sought _ labels _ rows _ c.labels-labels.ensures c.rows-rows.ensures
+    (ap (λ m. Some (record { row = s / 2; mode = m; reason = c.in-Some.reason })) c.mode_of-mode.ensures ∙ sym found ∙ c.loop-place.invariant)
 
 pub loop-place-preserved : goal.loop-place-preserved
 loop-place-preserved g c =
