@@ -14,16 +14,16 @@ fn has_line(card: &[u8], line: &str) -> anyhow::Result<bool> {
     Ok(answer(card).bytes().strip_suffix(b"\n") == Some(line.as_bytes()))
 }
 
-// Whether the card is declined for the cause of that number.
+// Whether the card is declined for the cause of that number, or for none where it is 0.
 fn has_cause(card: &[u8], number: &str) -> anyhow::Result<bool> {
     let number: u8 = number.parse()?;
+    let expected = (number != 0).then_some(number);
     let mut rows = [Row::Halt; MAX_ROWS];
     let mut labels = [0; MAX_WORDS];
     let Err(refusal) = read(card, &mut rows, &mut labels) else {
         return Ok(false);
     };
-    let cause = refusal.told().cause;
-    Ok(cause.is_some_and(|cause| u8::from(cause) == number))
+    Ok(refusal.told().cause.map(u8::from) == expected)
 }
 
 // Tries each line of a list: a path, a space and what is expected of that card.
