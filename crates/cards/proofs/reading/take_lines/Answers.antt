@@ -5,9 +5,6 @@ use Rattle.cards.specs.Reading.{line_in, lines_in}
 use Rattle.cards.proofs.Stepping.{steps_by, took, failed, lines_next, lines_stop}
 use Rattle.cards.proofs.reading.take_lines.Goals as goal
 
-pub loop-line-init : goal.loop-line-init
-loop-line-init c = λ card drafts. (card, drafts, refl)
-
 pub loop-line-preserved : goal.loop-line-preserved
 loop-line-preserved c = λ card drafts.
     let (so_far, drafted, left) = c.loop-line.invariant card drafts in
