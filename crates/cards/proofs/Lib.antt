@@ -6,7 +6,7 @@ mod HeadLines
 mod LineTexts
 mod Numerals
 mod Outcomes
-mod Painting
+pub mod Painting
 mod RowLines
 mod Splits
 mod Stepping

@@ -1,14 +1,14 @@
 // Reading a card into a draft, line by line.
-ghost use Rattle.std.specs.Prelude.{◌≡◌, true, IfOk};
+ghost use Rattle.std.specs.Prelude.{◌≡◌, ◌≤◌, true, IfOk};
 ghost use Rattle.cards.specs.Text.{four_texts};
 ghost use Rattle.cards.specs.Cards.{Card, lab_fits};
 ghost use Rattle.cards.specs.Heads.{lab_in};
-ghost use Rattle.cards.specs.Reading.{head_line, head_only, whole_in, lab_line, row_line, line_in};
+ghost use Rattle.cards.specs.Reading.{head_only, whole_in, lab_line, row_line, line_in};
 ghost use Rattle.cards.specs.Rows.{map_ok};
 ghost use Rattle.cards.specs.Drafts.{Drafts, Takes};
 
 use crate::draft::Draft;
-use crate::heads::{Lab, head_in};
+use crate::heads::{Head, Lab};
 use crate::lines::{Fields, four_fields};
 use crate::numbers::plain;
 use crate::rows::row_in;
@@ -18,20 +18,20 @@ use refusals::{CardRefusal, Refusal};
 use routine::{MAX_WORDS, Source, check};
 
 impl Draft {
-    // The draft of a card of which only the head was read, from its first line.
-    pub(crate) fn begin(line: &[u8]) -> Result<Draft, CardRefusal>
-        ensures head { map_ok result (λ draft. draft.head) ≡ head_line line.now }
-        ensures card { IfOk result (λ draft. Drafts draft (head_only draft.head)) }
+    // The draft of a card of which only the head was read. It is made of the head and not of the line, which may be refused: a draft is
+    // 20 kB, and a compiler may copy them at each `?` that they go through.
+    pub(crate) fn begin(head: Head) -> Draft
+        requires some { 1 ≤ head.words }
+        requires small { head.words ≤ 4096 }
+        ensures { Drafts result (head_only head) }
     {
-        let fields = four_fields(1, line)?;
-        let head = head_in(&fields)?;
-        Ok(Draft {
+        Draft {
             head,
             labs: 0,
             covered: 0,
             labels: [0; MAX_WORDS],
             rows: ArrayVec::new(),
-        })
+        }
     }
 
     // The `lab` line that the fields write, or the first wrong field. It begins no sooner than the `lab` lines before it end.

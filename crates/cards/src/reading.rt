@@ -1,13 +1,15 @@
 // Reading a card.
-ghost use Rattle.std.specs.Prelude.{◌≡◌, ◌+◌};
+ghost use Rattle.std.specs.Prelude.{◌≡◌, ◌+◌, ◌≤◌, IfOk};
 ghost use Rattle.cards.specs.Text.{lines_of, left_in};
-ghost use Rattle.cards.specs.Reading.{extent_fits, lines_in, read_card};
+ghost use Rattle.cards.specs.Reading.{extent_fits, head_line, lines_in, read_card};
 ghost use Rattle.cards.specs.Laws.{ReadingLaws};
 ghost use Rattle.cards.specs.Reads.{Reads};
 ghost use Rattle.cards.specs.Drafts.{Gathers, Takes};
 
 use crate::accepted::Accepted;
 use crate::draft::Draft;
+use crate::heads::{Head, head_in};
+use crate::lines::four_fields;
 use crate::reader::Reader;
 use refusals::CardRefusal;
 use routine::rows::Row;
@@ -20,6 +22,15 @@ fn fits_extent(text: &[u8]) -> bool
     ensures { result ≡ extent_fits text.now }
 {
     text.len() <= MAX_CARD && text.ends_with(b"\n")
+}
+
+// The head that the first line writes.
+fn head_line(line: &[u8]) -> Result<Head, CardRefusal>
+    ensures value { result ≡ head_line line.now }
+    ensures bound { IfOk result (λ head. (1 ≤ head.words) × (head.words ≤ 4096)) }
+{
+    let fields = four_fields(1, line)?;
+    head_in(&fields)
 }
 
 // Takes the lines that are left.
@@ -44,7 +55,7 @@ fn gather(text: &[u8]) -> Result<Draft, CardRefusal>
     let Some(first) = reader.next_line() else {
         return Err(CardRefusal::Extent);
     };
-    let mut draft = Draft::begin(first)?;
+    let mut draft = Draft::begin(head_line(first)?);
     take_lines(&mut reader, &mut draft)?;
     draft.check_whole()?;
     Ok(draft)

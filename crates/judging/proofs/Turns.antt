@@ -14,7 +14,8 @@ use Rattle.facts.specs.Tables.{slot, fact_at, hands_fact, hands_at, admits}
 use Rattle.facts.proofs.Orders.{all_refl, fact_trans}
 use Rattle.facts.proofs.Monotone.{facts_admitted}
 use Rattle.judging.specs.Steps.{mode_at, beginning, Under, Received, Running, weight}
-use Rattle.judging.proofs.Places.{slot_of_place, row_of_slot, mode_of_slot}
+use Rattle.judging.specs.Verdicts.{Least}
+use Rattle.judging.proofs.Places.{slot_of_place, row_of_slot, mode_of_slot, slot_inside}
 use Rattle.judging.proofs.Receiving.{admits_higher}
 use Rattle.judging.proofs.Weights.{clear_stale}
 
@@ -107,3 +108,14 @@ module _ {L : Type 0} (K : Kind L) (laws : Lawful K) (labels : List L) (rows : L
 
     pub turn_lighter : get_or stale s false ≡ true → weight K after stale' < weight K table stale
     turn_lighter marked = omega (arith, got.lighter, clear_stale stale s marked)
+
+  -- once nothing is stale
+  pub running_ends : (table : List (Fact L)) (stale : List Bool) → Running K labels rows table stale → ((s : ℕ) → s < length table → get_or stale s false ≡ false)
+      → Least K labels rows table
+  running_ends table stale run calm = record {
+    closed = record {
+      entered = run.entered;
+      admitted = λ i m h. run.settled i m h (calm (slot i m) (subst (λ n. slot i m < n) (sym run.table_long) (slot_inside (length rows) i m h)));
+    };
+    lowest = λ other closed i m h. run.under other closed (slot i m);
+  }

@@ -1,24 +1,22 @@
 // A routine that was judged.
 ghost use Rattle.std.specs.Prelude.{◌≡◌};
 ghost use Rattle.routine.specs.Parts.{rows_of, labels_of, words_of};
-ghost use Rattle.judging.specs.Verdicts.{Gives};
 
 use crate::verdict::Verdict;
-use labels::Label;
 use routine::Taken;
 use routine::rows::Row;
 
-// The taken routine, moved in, with the reader that it was judged for and the verdict that the rules give it. It is no `Copy`:
-// a routine is judged once.
+// The taken routine, moved in, with the reader that it was judged for and the verdict. It is no `Copy`: a routine is judged
+// once. That its verdict is the rules' own is what `judge` ensures: kept in the type, it would ask a kind of label of whoever
+// names one.
 #[derive(Drop)]
-pub struct Judged<'a, L: Label> {
+pub struct Judged<'a, L> {
     pub(crate) taken: Taken<'a, L>,
     pub(crate) reader: L,
     pub(crate) verdict: Verdict,
-    pub ghost given: { ∥ Gives L.kind (labels_of taken) (rows_of taken) reader verdict ∥₁ },
 }
 
-impl<'a, L: Label> Judged<'a, L> {
+impl<'a, L: Copy> Judged<'a, L> {
     pub fn rows(&self) -> &'a [Row]
         ensures { result.now ≡ rows_of self.now.taken }
     {
@@ -44,8 +42,7 @@ impl<'a, L: Label> Judged<'a, L> {
     }
 
     pub fn verdict(&self) -> Verdict
-        ensures value { result ≡ self.now.verdict }
-        ensures given { ∥ Gives L.kind (labels_of self.now.taken) (rows_of self.now.taken) self.now.reader result ∥₁ }
+        ensures { result ≡ self.now.verdict }
     {
         self.verdict
     }

@@ -4,22 +4,26 @@ ghost use Rattle.refusals.specs.ToldOfCards.{cause_number, blames, told_of};
 
 use crate::Layer;
 
-// What is wrong with a field of a row, by its number; where several things are, the first of these.
+// What is wrong with a field of a row; where several things are, the first of these.
 #[derive(Clone, Copy)]
 pub enum Cause {
     // it is not of the form that its place asks for
-    Form = 1,
+    Form,
     // its number has a leading zero
-    LeadingZero = 2,
+    LeadingZero,
     // its number is beyond the limit of its place
-    BeyondLimit = 3,
+    BeyondLimit,
 }
 
 impl From<Cause> for u8 {
     ghost from_gives = { λ cause number. number ≡ cause_number cause };
 
     fn from(cause: Cause) -> u8 {
-        cause as u8
+        match cause {
+            Cause::Form => 1,
+            Cause::LeadingZero => 2,
+            Cause::BeyondLimit => 3,
+        }
     }
 }
 

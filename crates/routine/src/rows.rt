@@ -1,4 +1,6 @@
 // The rows of a routine. A register is named by its number; a row counts from 0.
+ghost use Rattle.std.specs.Prelude.{◌≡◌};
+ghost use Rattle.routine.specs.declared.rows.Row.TheVariants.{Halt};
 
 #[derive(Clone, Copy)]
 pub enum Operand {
@@ -29,7 +31,7 @@ pub enum Test {
 }
 
 // A row: one of the nineteen words with its fields.
-#[derive(Clone, Copy, Default)]
+#[derive(Clone, Copy)]
 pub enum Row {
     // set: the register becomes the constant
     Set {
@@ -73,7 +75,15 @@ pub enum Row {
     },
     // fen
     Fence,
-    // hlt; it also stands where a table of fixed size holds no row yet
-    #[default]
+    // hlt
     Halt,
+}
+
+// It stands where a table of fixed size holds no row yet. By hand and not derived, so that a law says which row it is.
+impl Default for Row {
+    ghost is_default = { λ row. row ≡ Halt };
+
+    fn default() -> Row {
+        Row::Halt
+    }
 }

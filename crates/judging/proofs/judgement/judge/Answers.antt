@@ -54,11 +54,3 @@ returns-clause-judged g c =
     let long = c.fill_least.auto.table ∙ part_long c.args.table.now c.rows.result.now (rows_of taken) c.rows.ensures c.requires in
     judged g.L.Label.kind g.L.Label.lawful taken c.rows.result.now c.args.reader c.args.table.now c.fill_least.new.table c.verdict_under-verdict.result
     c.rows.ensures long c.fill_least.ensures c.verdict_under-verdict.ensures
-
-pub invariant_of-result : goal.invariant_of-result
-invariant_of-result g c =
-    let taken = c.args.taken in
-    let long = c.fill_least.auto.table ∙ part_long c.args.table.now c.rows.result.now (rows_of taken) c.rows.ensures c.requires in
-    let given = judged g.L.Label.kind g.L.Label.lawful taken c.rows.result.now c.args.reader c.args.table.now c.fill_least.new.table c.verdict_under-verdict.result
-    c.rows.ensures long c.fill_least.ensures c.verdict_under-verdict.ensures in
-    record { given = ∣ (take (2 * length (rows_of taken)) (c.fill_least.new.table ++ drop (2 * length c.rows.result.now) c.args.table.now), given.least, given.says) ∣₁ }

@@ -5,18 +5,16 @@ use Rattle.cards.proofs.draft.Draft.begin.Goals as goal
 
 pub invariant_of-result : goal.invariant_of-result
 unfolding every
-invariant_of-result c =
-    let head = c.in_ok-head.head in
-    record {
-      some = c.in_ok-head.ensures.bound.0;
-      small = c.in_ok-head.ensures.bound.1;
-      fits = ap (λ rows. every_field_fits rows head.words) c.new.ensures;
-      counted = omega arith;
-      inside = omega arith;
-    }
+invariant_of-result c = record {
+  some = c.requires.some;
+  small = c.requires.small;
+  fits = ap (λ rows. every_field_fits rows c.args.head.words) c.new.ensures;
+  counted = omega arith;
+  inside = omega arith;
+}
 
-pub returns-clause-card : goal.returns-clause-card
-returns-clause-card c = record {
+pub returns : goal.returns
+returns c = record {
   head = refl;
   labs = refl;
   covered = refl;
