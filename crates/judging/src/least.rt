@@ -132,11 +132,11 @@ impl<'t, L: Label> Work<'t, L> {
     }
 
     // Hands on what a stale slot's fact gives, after which the slot is no longer stale unless it handed on to itself.
-    fn turn(&mut self, routine: &Taken<L>, place: usize, fact: Fact<L>)
+    fn turn(&mut self, routine: &Taken<L>, place: usize, fact: &Fact<L>)
         requires running { Running L.Label.kind (labels_of routine.now) (rows_of routine.now) self.old.table.now self.old.stale }
         requires marked { slice_index_or self.old.stale place false ≡ true }
         requires inside { place < length self.old.table.now }
-        requires read { fact ≡ slice_index_or self.old.table.now place None }
+        requires read { fact.now ≡ slice_index_or self.old.table.now place None }
         ensures same { self.new.table.ghost_name ≡ self.old.table.ghost_name }
         ensures running { Running L.Label.kind (labels_of routine.now) (rows_of routine.now) self.new.table.now self.new.stale }
         ensures lighter { weight L.Label.kind self.new.table.now self.new.stale < weight L.Label.kind self.old.table.now self.old.stale }
@@ -145,7 +145,7 @@ impl<'t, L: Label> Work<'t, L> {
         if let Some(known) = fact {
             let here = place / 2;
             let row = routine.rows()[here];
-            self.hand_on(row, here, mode_of(place), &known, routine.labels());
+            self.hand_on(row, here, mode_of(place), known, routine.labels());
         }
     }
 
@@ -185,7 +185,7 @@ pub(crate) fn fill_least<L: Label>(routine: &Taken<L>, table: &mut [Fact<L>])
     // No iterator: each turn changes what is stale.
     while let Some(next) = work.next_stale(place) {
         let fact = copy_of(work.fact(next));
-        work.turn(routine, next, fact);
+        work.turn(routine, next, &fact);
         place = next;
     }
 }
