@@ -32,8 +32,10 @@ impl Line {
         Line { bytes, length }
     }
 
+    // The text of the line, at most 64 bytes.
     pub fn bytes(&self) -> &[u8]
-        ensures { result.now ≡ line_bytes self.now }
+        ensures text { result.now ≡ line_bytes self.now }
+        ensures short { length result.now ≤ 64 }
     {
         &self.bytes[..self.length]
     }
